@@ -7,7 +7,6 @@ ghost use Rattle.std.specs.Prelude.{◌≤◌, length, OnOk};
 ghost use Rattle.std.specs.Io.KnownBytes.{Appends};
 ghost use Rattle.promises.specs.Printing.{listing};
 
-use leaves::Count;
 use leaves::numbers::count;
 use sets::read;
 use shows::failure::tell;
@@ -38,11 +37,11 @@ fn is_given<R: Env>(rt: &R, word: usize) -> bool {
     !matches!(rt.arg(word, &mut nothing), Err(FillError::NotPresent))
 }
 
-fn number<R: Env>(rt: &R, word: usize) -> Count {
+fn number<R: Env>(rt: &R, word: usize) -> Option<u64> {
     let mut digits = [0u8; LONGEST];
     match rt.arg(word, &mut digits) {
         Ok(n) => count(&digits[..n]),
-        Err(_) => Count::Not,
+        Err(_) => None,
     }
 }
 
@@ -98,15 +97,15 @@ fn main(rt: HostRuntime) {
         usage(&rt);
         return;
     }
-    let Count::Is(cls) = number(&rt, 1) else {
+    let Some(cls) = number(&rt, 1) else {
         usage(&rt);
         return;
     };
-    let Count::Is(wire) = number(&rt, 2) else {
+    let Some(wire) = number(&rt, 2) else {
         usage(&rt);
         return;
     };
-    let Count::Is(records) = number(&rt, 3) else {
+    let Some(records) = number(&rt, 3) else {
         usage(&rt);
         return;
     };

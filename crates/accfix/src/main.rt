@@ -6,7 +6,7 @@ ghost use Rattle.std.specs.Prelude.{take, OnOk};
 ghost use Rattle.std.specs.Io.KnownBytes.{Appends};
 ghost use Rattle.rules.specs.Answers.{answer_count};
 
-use rules::Answer;
+use rules::Refusal;
 use sets::rewrite;
 use shows::failure::tell;
 use shows::input::{MOST_READ, read_all};
@@ -18,12 +18,12 @@ use std::io::Write;
 const MOST_WRITTEN: usize = 61440;
 
 // Writes the fixed form, if there is one.
-fn write<W: Write>(to: &mut W, answer: Answer, out: &[u8]) -> io::Result<()>
+fn write<W: Write>(to: &mut W, answer: Result<u32, Refusal>, out: &[u8]) -> io::Result<()>
     ensures { OnOk result (Appends (W.contents to.old) (W.contents to.new) (take (answer_count answer) out.now)) }
 {
     match answer {
-        Answer::Accepted(count) => write_front(to, out, count as usize),
-        Answer::Refused(_f) => Ok(()),
+        Ok(count) => write_front(to, out, count as usize),
+        Err(_f) => Ok(()),
     }
 }
 

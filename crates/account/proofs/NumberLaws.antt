@@ -1,8 +1,8 @@
 -- Own numbers as they are kept: what one of them holds, their order, one more among them; and what stands in the contents they were read from.
+use Rattle.std.specs.Prelude.{Some, None}
 use Prim.Native.Nat.{ℕ, zero, suc, ◌+◌, ◌*◌, ◌-◌, ◌/◌, ◌%◌, ◌<◌, ◌≤◌, ◌^◌}
 use mathlib.Core.Bool.{Bool, true, false, cond, ◌&&◌, ◌||◌}
 use mathlib.Core.List.{List, [], ◌∷◌, ◌++◌, map, append-nil}
-use mathlib.Core.Option.{none, some}
 use mathlib.Core.Path.{◌≡◌, refl, sym, ◌∙◌, ap, subst}
 use native.Mathlib.Omega.{arith}
 use lib.Dec.{eqb, leb, ltb}
@@ -18,7 +18,6 @@ use Rattle.rules.specs.Numbers.{is_digit, digit_run, value, read_count}
 use Rattle.rules.specs.Values.{Num, num, nums, two_nums, natural, read_serials, read_partner, read_wire_serial, amount_at}
 use Rattle.rules.specs.Sets.{given_partner, wire_partners}
 use Rattle.rules.proofs.Chains.{and_left, and_right, and_true, all_append, clash, never, cond-some, or-got, map-got, cons-got}
-use Rattle.leaves.specs.Readings.{count_of}
 use Rattle.leaves.proofs.Bounds.{count-below}
 use Rattle.account.specs.Numbering.{tally_serials, tally_length}
 use Rattle.leaves.proofs.Digits.{value_lt}
@@ -242,8 +241,8 @@ has-at own (k ∷ ks) a h = go (ltb (own_of k) own) refl (has-at own ks) h
         let g : own_of k < own = ltb-true (own_of k) own e in
         ap (λ (t : Bool). t || has_number own (owns_of ks)) (ne_eqb own (own_of k) (λ q. omega (arith, g, q))) ∙ more asc (omega (arith, l))
     go false e more l =
-        let none : has_number own (owns_of ks) ≡ false = above-none (own_of k) ks (and_left (above (own_of k) ks) (ascending ks) both) asc own (ltb-false (own_of k) own e) in
-        ap (λ (t : Bool). eqb own (own_of k) || t) none ∙ or-none (eqb own (own_of k))
+        let None : has_number own (owns_of ks) ≡ false = above-none (own_of k) ks (and_left (above (own_of k) ks) (ascending ks) both) asc own (ltb-false (own_of k) own e) in
+        ap (λ (t : Bool). eqb own (own_of k) || t) None ∙ or-none (eqb own (own_of k))
 
 -- one more stands at its own number's place
 pub inserted-at : (k : ℕ) (ks : List ℕ) → inserted k ks ≡ take (place_for (own_of k) ks) ks ++ k ∷ drop (place_for (own_of k) ks) ks
@@ -286,7 +285,7 @@ split-total (b ∷ c) = go (eqb b 44) (split-total c)
     go false e = head-total b (split 44 c) (omega (arith, e)) ∙ ap suc e
 
 -- a serial number has one to ten digits
-module _ (p : List ℕ) (n : ℕ) (e : read_count 10 p ≡ some n) where
+module _ (p : List ℕ) (n : ℕ) (e : read_count 10 p ≡ Some n) where
   run : digit_run 1 10 p ≡ true
   run = (cond-some (digit_run 1 10 p) (value p) n e).0
 
@@ -300,7 +299,7 @@ module _ (p : List ℕ) (n : ℕ) (e : read_count 10 p ≡ some n) where
   serial-some = leb-true 1 (length p) (and_left (leb 1 (length p)) (leb (length p) 10) long-run)
 
   serial-below : n < own_numbers
-  serial-below = count-below 10 p n (ap count_of e)
+  serial-below = count-below 10 p n (e)
 
   number_in_lem : number_in (read_count 10 p) ≡ n ∷ []
   number_in_lem = ap number_in e
@@ -317,7 +316,7 @@ serials-all (p ∷ ps) ns e = go (cons-got (or_bad 10 (read_count 10 p)) (read_s
     go : (n : ℕ) × (ms : List ℕ) × (or_bad 10 (read_count 10 p) ≡ got n) × (read_serials ps ≡ got ms) × (n ∷ ms ≡ ns)
         → ((ms : List ℕ) → read_serials ps ≡ got ms → (numbers_of ps ≡ ms) × (total with_comma ps ≤ 11 * length ms)) → (numbers_of (p ∷ ps) ≡ ns) × (total with_comma (p ∷ ps) ≤ 11 * length ns)
     go (n, ms, f, g, q) more =
-        let r : read_count 10 p ≡ some n = or-got 10 (read_count 10 p) n f in
+        let r : read_count 10 p ≡ Some n = or-got 10 (read_count 10 p) n f in
         let rest = more ms g in
         subst (λ (ns : List ℕ). (numbers_of (p ∷ ps) ≡ ns) × (total with_comma (p ∷ ps) ≤ 11 * length ns)) q
         (ap (λ (u : List ℕ). u ++ numbers_of ps) (number_in_lem p n r) ∙ ap (λ (u : List ℕ). n ∷ u) rest.0, omega (arith, rest.1, serial-short p n r))
@@ -345,7 +344,7 @@ module _ (c ns : List ℕ) (e : read_serials (split 44 c) ≡ got ns) where
       go (p ∷ ps) f =
           let u = cons-got (or_bad 10 (read_count 10 p)) (read_serials ps) (n ∷ ms) f in
           let z : u.0 ≡ n = let w = u.4 in cc in
-          serial-below p n (or-got 10 (read_count 10 p) u.0 u.2 ∙ ap some z)
+          serial-below p n (or-got 10 (read_count 10 p) u.0 u.2 ∙ ap Some z)
 
   pub serials-given : is_nil c ≡ false
   serials-given = go c e
@@ -367,7 +366,7 @@ partner-got : (p : List ℕ) (v : List Num) → read_partner p ≡ got v → Par
 partner-got [] v e = let q : two_nums 1 0 ≡ v = cc in record { state = 1; number = 0; is = q; given = refl; short = omega arith }
 partner-got (b ∷ p) v e =
     let u = map-got (λ n. two_nums 2 n) (or_bad 10 (read_count 10 (b ∷ p))) v e in
-    let r : read_count 10 (b ∷ p) ≡ some u.0 = or-got 10 (read_count 10 (b ∷ p)) u.0 u.1 in
+    let r : read_count 10 (b ∷ p) ≡ Some u.0 = or-got 10 (read_count 10 (b ∷ p)) u.0 u.1 in
     record { state = 2; number = u.0; is = u.2; given = number_in_lem (b ∷ p) u.0 r; short = serial-short (b ∷ p) u.0 r }
 
 -- the three pieces of it
@@ -387,14 +386,14 @@ wire-got (o ∷ a ∷ b ∷ []) v e =
     let both = map-got flat (cons_g (read_partner a) (cons_g (read_partner b) (got []))) whole.1 whole.3 in
     let first = cons-got (read_partner a) (cons_g (read_partner b) (got [])) both.0 both.1 in
     let second = cons-got (read_partner b) (got []) first.1 first.3 in
-    let r : read_count 10 o ≡ some own.0 = or-got 10 (read_count 10 o) own.0 own.1 in
+    let r : read_count 10 o ≡ Some own.0 = or-got 10 (read_count 10 o) own.0 own.1 in
     let x = partner-got a first.0 first.2 in
     let y = partner-got b second.0 second.2 in
-    let none : [] ≡ second.1 = let z = second.3 in cc in
+    let None : [] ≡ second.1 = let z = second.3 in cc in
     let is : num (pos own.0) ∷ (two_nums x.state x.number ++ (two_nums y.state y.number ++ [])) ≡ v =
     ap (λ (h : List Num). num (pos own.0) ∷ (h ++ (two_nums y.state y.number ++ []))) x.is
     ∙ ap (λ (h : List Num). num (pos own.0) ∷ (first.0 ++ (h ++ []))) y.is
-    ∙ ap (λ (h : List (List Num)). num (pos own.0) ∷ flat (first.0 ∷ second.0 ∷ h)) none
+    ∙ ap (λ (h : List (List Num)). num (pos own.0) ∷ flat (first.0 ∷ second.0 ∷ h)) None
     ∙ ap (λ (h : List (List Num)). num (pos own.0) ∷ flat (first.0 ∷ h)) second.4
     ∙ ap (λ (h : List (List Num)). num (pos own.0) ∷ flat h) first.4
     ∙ ap (λ (h : List Num). num (pos own.0) ∷ h) both.2
@@ -473,17 +472,17 @@ place-most m (k ∷ ks) a = go (ltb (own_of k) m) refl
     go false x = omega arith
 
 -- ── how long a number is at least ──
-count_less : (w : ℕ) (p : List ℕ) (n : ℕ) → read_count w p ≡ some n → n < 10 ^ length p
+count_less : (w : ℕ) (p : List ℕ) (n : ℕ) → read_count w p ≡ Some n → n < 10 ^ length p
 count_less w p n e =
     let (d, q) = cond-some (digit_run 1 w p) (value p) n e in
     subst (λ (m : ℕ). m < 10 ^ length p) q (value_lt p (and_left (all is_digit p) (within 1 w (length p)) d))
 
-pub two_digits : (w : ℕ) (p : List ℕ) (n : ℕ) → read_count w p ≡ some n → 10 ≤ n → 2 ≤ length p
+pub two_digits : (w : ℕ) (p : List ℕ) (n : ℕ) → read_count w p ≡ Some n → 10 ≤ n → 2 ≤ length p
 two_digits w [] n e h = let l : n < 1 = count_less w [] n e in absurd (omega (arith, l, h))
 two_digits w (b ∷ []) n e h = let l : n < 10 = count_less w (b ∷ []) n e in absurd (omega (arith, l, h))
 two_digits w (b ∷ c ∷ p) n e h = omega arith
 
-pub three-digits : (w : ℕ) (p : List ℕ) (n : ℕ) → read_count w p ≡ some n → 100 ≤ n → 3 ≤ length p
+pub three-digits : (w : ℕ) (p : List ℕ) (n : ℕ) → read_count w p ≡ Some n → 100 ≤ n → 3 ≤ length p
 three-digits w [] n e h = let l : n < 1 = count_less w [] n e in absurd (omega (arith, l, h))
 three-digits w (b ∷ []) n e h = let l : n < 10 = count_less w (b ∷ []) n e in absurd (omega (arith, l, h))
 three-digits w (b ∷ c ∷ []) n e h = let l : n < 100 = count_less w (b ∷ c ∷ []) n e in absurd (omega (arith, l, h))

@@ -1,8 +1,8 @@
 -- A line in a placed symbol: the laws that the proofs of its functions use.
+use Rattle.std.specs.Prelude.{Some}
 use Prim.Native.Nat.{ℕ, suc, ◌+◌, ◌<◌}
 use mathlib.Core.Bool.{Bool, true, false, cond, ◌&&◌}
 use mathlib.Core.List.{List, [], ◌∷◌, map}
-use mathlib.Core.Option.{some}
 use mathlib.Core.Path.{◌≡◌, refl, sym, ◌∙◌, ap, subst}
 use native.Mathlib.Omega.{arith}
 use lib.Dec.{T, leb}
@@ -32,7 +32,6 @@ use Rattle.tables.specs.Rows.{rule_of, for_line, found_for_line}
 use Rattle.tables.specs.declared.Row.{Row}
 use Rattle.entries.specs.Acts.{roomy, put_line, next_of, Entered, Acts}
 use Rattle.leaves.specs.Bytes.{up_to}
-use Rattle.leaves.specs.Readings.{count_of}
 use Rattle.leaves.proofs.Bounds.{count-below}
 use Rattle.entries.proofs.ByKind.{split-head}
 use Rattle.entries.proofs.Took.{took}
@@ -127,8 +126,8 @@ module _ (now : Now) (row n : ℕ) (at : Span) where
 
 -- ── an own number as it is read ──
 -- it has up to ten digits
-own_below : (s : List ℕ) (n : ℕ) → read_count 10 s ≡ some n → n < own_numbers
-own_below s n e = count-below 10 s n (ap count_of e)
+own_below : (s : List ℕ) (n : ℕ) → read_count 10 s ≡ Some n → n < own_numbers
+own_below s n e = count-below 10 s n (e)
 
 own_in : (s : List ℕ) (n : ℕ) → or_bad 10 (read_count 10 s) ≡ got n → n < own_numbers
 own_in s n e = own_below s n (or-got 10 (read_count 10 s) n e)

@@ -1,8 +1,8 @@
 -- What a line that a row took says of that row: it stands in the table, it was not full, and its numbers fill its places.
+use Rattle.std.specs.Prelude.{Some}
 use Prim.Native.Nat.{ℕ, suc, ◌+◌, ◌<◌}
 use mathlib.Core.Bool.{Bool, true, false, cond, ◌&&◌}
 use mathlib.Core.List.{List, [], ◌∷◌, map}
-use mathlib.Core.Option.{some}
 use mathlib.Core.Path.{◌≡◌, refl, sym, ◌∙◌, ap, subst}
 use lib.Dec.{leb}
 use lib.IntN.{ℤ}
@@ -44,11 +44,11 @@ full : (d : Kind) (zs : List ℤ) → length zs ≡ columns d → fills d zs ≡
 full d [] h = refl
 full d (z ∷ zs) h = eq-eqb (length (z ∷ zs)) (columns d) h
 
-two_of-sheet : (s : List ℕ) (as' : List (List ℕ × ℕ × ℕ)) (v : List Num) → find_sheet s as' ≡ some v → length v ≡ 2
+two_of-sheet : (s : List ℕ) (as' : List (List ℕ × ℕ × ℕ)) (v : List Num) → find_sheet s as' ≡ Some v → length v ≡ 2
 two_of-sheet s [] v e = none-some e
 two_of-sheet s (a ∷ as') v e = go (same s a.0) (two_of-sheet s as' v) e
   where
-    go : (b : Bool) → (find_sheet s as' ≡ some v → length v ≡ 2) → cond b (some (two_nums a.1 a.2)) (find_sheet s as') ≡ some v → length v ≡ 2
+    go : (b : Bool) → (find_sheet s as' ≡ Some v → length v ≡ 2) → cond b (Some (two_nums a.1 a.2)) (find_sheet s as') ≡ Some v → length v ≡ 2
     go true ih e = let q : two_nums a.1 a.2 ≡ v = cc in ap length (sym q)
     go false ih e = ih e
 

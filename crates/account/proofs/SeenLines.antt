@@ -1,4 +1,5 @@
 -- A line that `next_line` saw, among the lines left: what it is in the code's words, and where the reading stands behind it.
+use Rattle.std.specs.Prelude.{Option, Some, None}
 use Prim.Native.Nat.{ℕ, suc, ◌+◌, ◌<◌, ◌≤◌}
 use mathlib.Core.Bool.{Bool, false}
 use mathlib.Core.List.{List, ◌∷◌}
@@ -11,8 +12,6 @@ use Rattle.rules.specs.Machine.{Line}
 use Rattle.rules.proofs.Chains.{clash}
 use Rattle.lines.specs.LineLook.{look_in}
 use Rattle.lines.specs.declared.Seen.{Seen}
-use Rattle.lines.specs.declared.Look.{Look}
-use Rattle.lines.specs.declared.Look.TheVariants as K
 use Rattle.lines.proofs.LinesSeen.{look-forward}
 use Rattle.account.specs.declared.Volume.{Volume}
 use Rattle.account.specs.declared.Pos.{Pos}
@@ -61,9 +60,9 @@ Forward body v p g = (p.at < g.next) × (g.next ≤ end_of body v + 1) × (g.nex
 pub seen-forward : (body : List ℕ) (v : Volume) (p : Pos) (f : Seen) → f ≡ seen_from body v p → f.last ≡ false → Forward body v p f
 seen-forward body v p f e n = subst (Forward body v p) (sym e) (go (look_in v.number (p.line + 1) v.at p.at body) refl (ap (λ (g : Seen). g.last) (sym e) ∙ n))
   where
-    go : (r : Look) → look_in v.number (p.line + 1) v.at p.at body ≡ r → (seen_or p.at r).last ≡ false → Forward body v p (seen_or p.at r)
-    go K.End q h = clash refl h
-    go (K.Line g) q h = look-forward v.number (p.line + 1) v.at p.at body g q
+    go : (r : Option Seen) → look_in v.number (p.line + 1) v.at p.at body ≡ r → (seen_or p.at r).last ≡ false → Forward body v p (seen_or p.at r)
+    go None q h = clash refl h
+    go (Some g) q h = look-forward v.number (p.line + 1) v.at p.at body g q
 
 pub low-past : (body : List ℕ) (v : Volume) (p : Pos) (f : Seen) → f ≡ seen_from body v p → f.last ≡ false → Low p → Low (past p f)
 low-past body v p f e n h = let m = seen-forward body v p f e n in let a = h.line in record { line = omega (arith, m.0); at = m.2 }

@@ -1,4 +1,5 @@
 -- Skipping a block: what one line does to the loop's invariant and to the contract, over plain variables.
+use Rattle.std.specs.Prelude.{Result, Ok, Err}
 use Prim.Native.Nat.{ℕ, zero, suc, ◌+◌, ◌-◌, ◌<◌, ◌≤◌}
 use mathlib.Core.Bool.{Bool, true, false}
 use mathlib.Core.List.{List, ◌∷◌}
@@ -18,8 +19,6 @@ use Rattle.rules.specs.LineByLine.{step_in, refused, run}
 use Rattle.lines.specs.declared.Seen.{Seen}
 use Rattle.account.specs.declared.Volume.{Volume}
 use Rattle.account.specs.declared.Pos.{Pos}
-use Rattle.account.specs.declared.Left.{Left}
-use Rattle.account.specs.declared.Left.TheVariants as L
 use Rattle.account.specs.declared.Skipped.{Skipped}
 use Rattle.account.specs.declared.Skipped.TheVariants as S
 use Rattle.account.specs.Walk.{stop_at, seen_from, At, todo}
@@ -143,7 +142,7 @@ module _ (s body : List ℕ) (v : Volume) (left : ℕ) (p q : Pos) (g : Going s 
               ∙ ap (λ (x : ℕ). refused x v.number (q.line + 1)) (ap early (acts e t h fs k b next) ∙ early-turn t h fs k b d deep did ∙ sym y);
         }
 
-  pub at_last : f.last ≡ true → (m : ℕ) → m ≡ early_skip did → SkipMet s body v p left (L.Stop (stop_at v (past q f) m))
+  pub at_last : f.last ≡ true → (m : ℕ) → m ≡ early_skip did → SkipMet s body v p left (Err (stop_at v (past q f) m))
   at_last l m y = record { met = λ ls a n. ends ls a n l m y; further = tt }
 
   module _ (l : f.last ≡ false) where
@@ -165,15 +164,15 @@ module _ (s body : List ℕ) (v : Volume) (left : ℕ) (p q : Pos) (g : Going s 
           four = g.four;
         }
 
-    pub shut : S.Shut ≡ did → SkipMet s body v p left (L.Go (past q f))
+    pub shut : S.Shut ≡ did → SkipMet s body v p left (Ok (past q f))
     shut y =
         let m = seen-forward body v q f w l in
         record { met = λ ls a n. goes ls a n l (unskipped d) (turned-to y); further = (low-past body v q f w l g.low, onward (past q f) (omega arith), m.1) }
 
-    pub refuses : (m : ℕ) → S.Refuse m ≡ did → SkipMet s body v p left (L.Stop (stop_at v (past q f) m))
+    pub refuses : (m : ℕ) → S.Refuse m ≡ did → SkipMet s body v p left (Err (stop_at v (past q f) m))
     refuses m y = record { met = λ ls a n. stops ls a n l m (λ t h fs k b. ap (turn t h fs k b d) (sym y)); further = tt }
 
-    pub too-deep : S.Deeper ≡ did → left ≡ 1 → SkipMet s body v p left (L.Stop (stop_at v (past q f) 18))
+    pub too-deep : S.Deeper ≡ did → left ≡ 1 → SkipMet s body v p left (Err (stop_at v (past q f) 18))
     too-deep y h =
         let x : most_depth ≤ d = omega arith in
         record { met = λ ls a n. stops ls a n l 18 (λ t k fs m b. ap (turn t k fs m b d) (sym y) ∙ rw (le-ltb d most_depth x) refl); further = tt }
@@ -193,20 +192,20 @@ module _ (s body : List ℕ) (v : Volume) (left : ℕ) (p q : Pos) (g : Going s 
       opened t k fs n b = let a = fewer in let x : d < most_depth = omega arith in ap (turn t k fs n b d) (sym y) ∙ rw (lt-ltb d most_depth x) refl
 
       -- the inner block's contract, one deeper
-      inner : (r : Left) → SkipMet s body v (past q f) (left - 1) r → (us : List (List ℕ)) → At s body v (past q f) us → is_nil us ≡ false → CameOr s body v (past q f) us (skipped (suc d)) (unskipped (suc d)) r
+      inner : (r : Result Pos Refusal) → SkipMet s body v (past q f) (left - 1) r → (us : List (List ℕ)) → At s body v (past q f) us → is_nil us ≡ false → CameOr s body v (past q f) us (skipped (suc d)) (unskipped (suc d)) r
       inner r k us a n = subst (λ (m : ℕ). CameOr s body v (past q f) us (skipped m) (unskipped m) r) deeper-by (k.met us a n)
 
-      pub inner-stops : (x : Refusal) → SkipMet s body v (past q f) (left - 1) (L.Stop x) → SkipMet s body v p left (L.Stop x)
+      pub inner-stops : (x : Refusal) → SkipMet s body v (past q f) (left - 1) (Err x) → SkipMet s body v p left (Err x)
       inner-stops x k =
           record {
             met = λ ls a n.
                 let c = goes ls a n l (skipped (suc d)) opened in
-                let i = inner (L.Stop x) k c.rest c.at c.some_left in
+                let i = inner (Err x) k c.rest c.at c.some_left in
                 record { eq = λ e t h fs m b next more. c.eq e t h fs m b next more ∙ i.eq e t h fs m b next more };
             further = tt;
           }
 
-      pub goes_on : (r : Pos) → SkipMet s body v (past q f) (left - 1) (L.Go r) → Going s body v left p r
+      pub goes_on : (r : Pos) → SkipMet s body v (past q f) (left - 1) (Ok r) → Going s body v left p r
       goes_on r k =
           let x = k.further in
           let y = x.1 in
@@ -214,7 +213,7 @@ module _ (s body : List ℕ) (v : Volume) (left : ℕ) (p q : Pos) (g : Going s 
           record {
             came = λ ls a n.
                 let c = goes ls a n l (skipped (suc d)) opened in
-                let i = inner (L.Go r) k c.rest c.at c.some_left in
+                let i = inner (Ok r) k c.rest c.at c.some_left in
                 record {
                   rest = i.rest;
                   at = i.at;
@@ -232,12 +231,12 @@ module _ (s body : List ℕ) (v : Volume) (left : ℕ) (p q : Pos) (g : Going s 
 
 -- ── the contract, of a line that opens a block ──
 module _ (s body : List ℕ) (v : Volume) (p : Pos) (ls : List (List ℕ)) (a : At s body v p ls) (n : is_nil ls ≡ false) where
-  pub skipped-run : (q : Pos) (m : SkipMet s body v p 4 (L.Go q)) {inside behind : State} → Skips inside behind → (e : Env) (next : List ℕ) (more : List Line)
+  pub skipped-run : (q : Pos) (m : SkipMet s body v p 4 (Ok q)) {inside behind : State} → Skips inside behind → (e : Env) (next : List ℕ) (more : List Line)
       → run e inside (todo v next p ls more) ≡ run e behind (todo v next q (m.met ls a n).rest more)
   skipped-run q m (in_placed t h fs k o) e next more = (m.met ls a n).eq e t h fs k (symbol_block o) next more
   skipped-run q m (in_wire t h fs k w) e next more = (m.met ls a n).eq e t h fs k (wire_block w) next more
 
-  pub skipped-refused : (x : Refusal) → SkipMet s body v p 4 (L.Stop x) → {inside behind : State} → Skips inside behind → (e : Env) (next : List ℕ) (more : List Line)
+  pub skipped-refused : (x : Refusal) → SkipMet s body v p 4 (Err x) → {inside behind : State} → Skips inside behind → (e : Env) (next : List ℕ) (more : List Line)
       → run e inside (todo v next p ls more) ≡ refused x.number x.volume x.line
   skipped-refused x m (in_placed t h fs k o) e next more = (m.met ls a n).eq e t h fs k (symbol_block o) next more
   skipped-refused x m (in_wire t h fs k w) e next more = (m.met ls a n).eq e t h fs k (wire_block w) next more

@@ -1,9 +1,9 @@
 -- From line to line: what `next_line` answers of the lines left.
+use Rattle.std.specs.Prelude.{Option, Some, None}
 use Prim.Native.Nat.{ℕ, ◌+◌}
 use mathlib.Core.Bool.{false}
 use mathlib.Core.Path.{◌≡◌, refl, sym, ap, subst}
 use mathlib.Core.List.{List, ◌∷◌, ◌++◌}
-use mathlib.Core.Option.{some}
 use native.Mathlib.Omega.{arith}
 use lib.ListN.{length}
 use Rattle.rules.specs.Base.{is_nil}
@@ -12,8 +12,6 @@ use Rattle.rules.specs.Answers.{numbered}
 use Rattle.rules.proofs.Chains.{clash}
 use Rattle.lines.specs.LineLook.{look_in, lines_in}
 use Rattle.lines.specs.declared.Seen.{Seen}
-use Rattle.lines.specs.declared.Look.{Look}
-use Rattle.lines.specs.declared.Look.TheVariants as K
 use Rattle.lines.proofs.LinesSeen.{look-line, look-end}
 use Rattle.account.specs.declared.Volume.{Volume}
 use Rattle.account.specs.declared.Pos.{Pos}
@@ -22,9 +20,9 @@ use Rattle.account.specs.Walk.{seen_or, seen_from, At, behind, todo, line_at, Ne
 pub next-seen : (s body : List ℕ) (v : Volume) (p : Pos) (ls : List (List ℕ)) → At s body v p ls → is_nil ls ≡ false → Next s body v p ls (seen_from body v p)
 next-seen s body v p ls a n = go (look_in v.number (p.line + 1) v.at p.at body) refl
   where
-    go : (r : Look) → look_in v.number (p.line + 1) v.at p.at body ≡ r → Next s body v p ls (seen_or p.at r)
-    go K.End e = clash (ap is_nil (look-end v.number (p.line + 1) v.at p.at s body ls a.part a.short a.begun a.here a.lines e)) n
-    go (K.Line f) e =
+    go : (r : Option Seen) → look_in v.number (p.line + 1) v.at p.at body ≡ r → Next s body v p ls (seen_or p.at r)
+    go None e = clash (ap is_nil (look-end v.number (p.line + 1) v.at p.at s body ls a.part a.short a.begun a.here a.lines e)) n
+    go (Some f) e =
         let g = look-line v.number (p.line + 1) v.at p.at s body ls a.part a.short a.begun a.here a.lines f e in
         let w = g.follows in
         let x = w.next in
@@ -42,7 +40,7 @@ next-seen s body v p ls a n = go (look_in v.number (p.line + 1) v.at p.at body) 
             part = a.part;
             begun = omega (arith, a.begun);
             here = omega arith;
-            lines = subst (λ (q : ℕ). lines_in v.at q body ≡ some g.others) x w.after;
+            lines = subst (λ (q : ℕ). lines_in v.at q body ≡ Some g.others) x w.after;
             low = omega arith;
           };
         }
@@ -52,8 +50,8 @@ pub todo-cons : (v : Volume) (next : List ℕ) (p : Pos) (l : List ℕ) (ls : Li
 todo-cons v next p l ls more = ap (λ (n : ℕ). line_at v next p l ls ∷ (numbered v.number next n (p.at + length l + 2) ls ++ more)) (omega arith)
 
 module _ (body : List ℕ) (v : Volume) (p : Pos) where
-  pub seen_end : look_in v.number (p.line + 1) v.at p.at body ≡ K.End → seen_or p.at K.End ≡ seen_from body v p
+  pub seen_end : look_in v.number (p.line + 1) v.at p.at body ≡ None → seen_or p.at None ≡ seen_from body v p
   seen_end e = ap (seen_or p.at) (sym e)
 
-  pub seen-line : (f : Seen) → look_in v.number (p.line + 1) v.at p.at body ≡ K.Line f → f ≡ seen_from body v p
+  pub seen-line : (f : Seen) → look_in v.number (p.line + 1) v.at p.at body ≡ Some f → f ≡ seen_from body v p
   seen-line f e = ap (seen_or p.at) (sym e)

@@ -1,5 +1,5 @@
 -- DRAWING_FORMAT and the names of layers in it: what the code answers to a line there, and what it leaves in the numbers and marks lent.
-use Rattle.std.specs.Prelude.{ℕ, ◌+◌, Bool, true, not, ◌≡◌, List, [], ◌∷◌, ◌++◌, ltb, ℤ, pos, length, get_or, set, take, drop}
+use Rattle.std.specs.Prelude.{ℕ, ◌+◌, Bool, true, not, ◌≡◌, List, [], ◌∷◌, ◌++◌, ltb, ℤ, pos, length, get_or, set, take, drop, Result, Ok, Err}
 use Rattle.std.proofs.lemmas.List.Edits.{sets}
 use Rattle.rules.specs.Base.{among}
 use Rattle.rules.specs.RefusalNumbers.{Got, got, bad, unless, and_then}
@@ -14,8 +14,6 @@ use Rattle.rules.specs.Machine.{layer_value}
 use Rattle.tables.specs.Tables.{table_of}
 use Rattle.entries.specs.Names.{names_in}
 use Rattle.entries.specs.Acts.{put_line}
-use Rattle.account.specs.declared.LayerName.{LayerName}
-use Rattle.account.specs.declared.LayerName.TheVariants as N
 use Rattle.account.specs.declared.Now.{Now}
 use Rattle.account.specs.declared.Where.{Where}
 use Rattle.account.specs.declared.Step.{Step}
@@ -25,6 +23,7 @@ use Rattle.account.specs.TopLines.{layers_of}
 use Rattle.tables.specs.Numbering.{table_drawing}
 use Rattle.account.specs.Numbering.{block_top, block_drawing, block_layer_names, turn_defines, rows_drawing, place_letter, tally_layers}
 use Rattle.rules.specs.RecordTable.{kind_layer}
+use Rattle.rules.specs.declared.Span.{Span}
 
 -- ── DRAWING_FORMAT ──
 -- "`floor_height`, exactly when arc is 001": the range of this table is arc; the marks are those of its rows
@@ -56,12 +55,12 @@ drawing_put rec (refuse k) = rec
 
 -- ── a layer's name ──
 -- "Text is byte place in the spool, from 0, and length; 0 and 0 if empty."
-abbrev pub name_of : Got Value → LayerName
-name_of (got empty) = N.Is (span 0 0)
-name_of (got (nums v)) = N.Is (span 0 0)
-name_of (got (chars at c)) = N.Is (span at (length c))
-name_of (got (linked n ps)) = N.Is (span 0 0)
-name_of (bad k) = N.Bad k
+abbrev pub name_of : Got Value → Result Span ℕ
+name_of (got empty) = Ok (span 0 0)
+name_of (got (nums v)) = Ok (span 0 0)
+name_of (got (chars at c)) = Ok (span at (length c))
+name_of (got (linked n ps)) = Ok (span 0 0)
+name_of (bad k) = Err k
 
 -- ── a layer's line ──
 abbrev pub layer_taken : Now → Now

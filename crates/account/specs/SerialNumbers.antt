@@ -1,7 +1,6 @@
 -- Own serial numbers as they are kept: in ascending order, each with the place and the length of the content that it was read from, where its
 -- partners stand.
-use Rattle.std.specs.Prelude.{ℕ, zero, suc, ◌+◌, ◌*◌, ◌/◌, ◌%◌, Bool, true, false, cond, ◌&&◌, not, ◌≡◌, List, [], ◌∷◌, ◌++◌, map, eqb, ltb, length, get_or, set, take, drop}
-use Rattle.std.proofs.Math.Option.{Option, none, some}
+use Rattle.std.specs.Prelude.{ℕ, zero, suc, ◌+◌, ◌*◌, ◌/◌, ◌%◌, Bool, true, false, cond, ◌&&◌, not, ◌≡◌, List, [], ◌∷◌, ◌++◌, map, eqb, ltb, length, get_or, set, take, drop, Option, Some, None}
 use Rattle.rules.specs.declared.Class.{Class}
 use Rattle.rules.specs.declared.Span.{Span}
 use Rattle.rules.specs.Base.{all, flat, has_number, split}
@@ -89,8 +88,8 @@ pub record SerialLine (now : Now) (n : ℕ) (at : Span) (tally₀ tally₁ seria
 
 -- ── partners ──
 abbrev pub number_in : Option ℕ → List ℕ
-number_in none = []
-number_in (some n) = n ∷ []
+number_in None = []
+number_in (Some n) = n ∷ []
 
 -- the numbers behind the first comma of a serial's content: an empty one is none
 abbrev pub partners_in : List ℕ → List ℕ

@@ -1,5 +1,5 @@
 -- What a skipped line does, as the code answers it, and what skipping a block promises.
-use Rattle.std.specs.Prelude.{ℕ, zero, suc, ◌+◌, ◌-◌, ◌≤◌, ◌<◌, min, false, ◌≡◌, List}
+use Rattle.std.specs.Prelude.{ℕ, zero, suc, ◌+◌, ◌-◌, ◌≤◌, ◌<◌, min, false, ◌≡◌, List, Result, Ok, Err}
 use Rattle.rules.specs.declared.Refusal.{Refusal}
 use Rattle.rules.specs.Base.{is_nil}
 use Rattle.rules.specs.Lines.{equals, Form, ignored, wrong, close, eof, keyed, shape_of}
@@ -11,8 +11,6 @@ use Rattle.rules.specs.PlacedSymbol.{skip_ended}
 use Rattle.rules.specs.LineByLine.{refused, run}
 use Rattle.account.specs.declared.Volume.{Volume}
 use Rattle.account.specs.declared.Pos.{Pos}
-use Rattle.account.specs.declared.Left.{Left}
-use Rattle.account.specs.declared.Left.TheVariants as L
 use Rattle.account.specs.declared.Skipped.{Skipped}
 use Rattle.account.specs.declared.Skipped.TheVariants as S
 use Rattle.account.specs.Walk.{end_of, At, todo}
@@ -74,18 +72,18 @@ pub record Refused (v : Volume) (p : Pos) (ls : List (List ℕ)) (from : InOwned
   pub eq : (e : Env) (t : Set) (h : ℕ) (fs : List Figure) (n : ℕ) (b : Owned) (next : List ℕ) (more : List Line)
       → run e (from t h fs n b) (todo v next p ls more) ≡ refused f.number f.volume f.line
 
-abbrev pub CameOr : List ℕ → List ℕ → Volume → Pos → List (List ℕ) → InOwned → InOwned → Left → Type 0
-CameOr s body v p ls from to (L.Go q) = Came s body v p ls from to q
-CameOr s body v p ls from to (L.Stop f) = Refused v p ls from f
+abbrev pub CameOr : List ℕ → List ℕ → Volume → Pos → List (List ℕ) → InOwned → InOwned → Result Pos Refusal → Type 0
+CameOr s body v p ls from to (Ok q) = Came s body v p ls from to q
+CameOr s body v p ls from to (Err f) = Refused v p ls from f
 
 -- no line's number is greater than its place, and no place than that behind a spool's last line
 pub record Low (p : Pos) : Type 0 where
   pub line : p.line ≤ p.at
   pub at : p.at ≤ 61441
 
-abbrev pub Further : List ℕ → Volume → Pos → Left → Type 0
-Further body v p (L.Go q) = Low q × (p.at < q.at) × (q.at ≤ end_of body v + 1)
-Further body v p (L.Stop f) = Unit {0}
+abbrev pub Further : List ℕ → Volume → Pos → Result Pos Refusal → Type 0
+Further body v p (Ok q) = Low q × (p.at < q.at) × (q.at ≤ end_of body v + 1)
+Further body v p (Err f) = Unit {0}
 
 -- `left` blocks may be open in each other, this one counted
 pub record SkipReady (p : Pos) (left : ℕ) : Type 0 where
@@ -93,6 +91,6 @@ pub record SkipReady (p : Pos) (left : ℕ) : Type 0 where
   pub one : 1 ≤ left
   pub four : left ≤ 4
 
-pub record SkipMet (s body : List ℕ) (v : Volume) (p : Pos) (left : ℕ) (r : Left) : Type 0 where
+pub record SkipMet (s body : List ℕ) (v : Volume) (p : Pos) (left : ℕ) (r : Result Pos Refusal) : Type 0 where
   pub met : (ls : List (List ℕ)) → At s body v p ls → is_nil ls ≡ false → CameOr s body v p ls (skipped (5 - left)) (unskipped (5 - left)) r
   pub further : Further body v p r

@@ -1,6 +1,5 @@
 -- Where the reading stands, and the lines that are left.
-use Rattle.std.specs.Prelude.{ℕ, suc, ◌+◌, ◌≤◌, true, ◌≡◌, List, ◌∷◌, ◌++◌, length}
-use Rattle.std.proofs.Math.Option.{some}
+use Rattle.std.specs.Prelude.{ℕ, suc, ◌+◌, ◌≤◌, true, ◌≡◌, List, ◌∷◌, ◌++◌, length, Option, Some, None}
 use Rattle.rules.specs.Base.{is_nil}
 use Rattle.rules.specs.Spool.{most_bytes}
 use Rattle.rules.specs.Lines.{form_of, form_in}
@@ -10,14 +9,12 @@ use Rattle.rules.specs.declared.Refusal.{Refusal}
 use Rattle.rules.specs.declared.LineForm.TheVariants as L
 use Rattle.lines.specs.LineLook.{look_in, lines_in, PartOf}
 use Rattle.lines.specs.declared.Seen.{Seen}
-use Rattle.lines.specs.declared.Look.{Look}
-use Rattle.lines.specs.declared.Look.TheVariants as K
 use Rattle.account.specs.declared.Volume.{Volume}
 use Rattle.account.specs.declared.Pos.{Pos}
 
-abbrev pub seen_or : ℕ → Look → Seen
-seen_or at K.End = record { form = L.Ignored; next = at; last = true }
-seen_or at (K.Line f) = f
+abbrev pub seen_or : ℕ → Option Seen → Seen
+seen_or at None = record { form = L.Ignored; next = at; last = true }
+seen_or at (Some f) = f
 
 -- the next line of a volume with these bytes, where there is one
 abbrev pub seen_from : List ℕ → Volume → Pos → Seen
@@ -33,7 +30,7 @@ pub record At (s body : List ℕ) (v : Volume) (p : Pos) (ls : List (List ℕ)) 
   pub part : PartOf s v.at body
   pub begun : v.at ≤ p.at
   pub here : p.at ≤ end_of body v
-  pub lines : lines_in v.at p.at body ≡ some ls
+  pub lines : lines_in v.at p.at body ≡ Some ls
   pub low : p.line ≤ p.at
 
 -- behind the line l

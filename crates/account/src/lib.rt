@@ -329,20 +329,6 @@ pub enum Complete {
     Wire,
 }
 
-// A block read to its end, or the refusal.
-#[derive(Clone, Copy)]
-pub enum Left {
-    Go(Pos),
-    Stop(Refusal),
-}
-
-// A range class, where its number and its wire part are those of one.
-#[derive(Clone, Copy)]
-pub enum MaybeClass {
-    Is(Class),
-    Not,
-}
-
 // What a skipped line does: nothing, it opens a block, it closes one; or its refusal.
 #[derive(Clone, Copy)]
 pub enum Skipped {
@@ -350,18 +336,4 @@ pub enum Skipped {
     Deeper,
     Shut,
     Refuse(u8),
-}
-
-// A layer's name, where it is one; the number of the refusal otherwise.
-#[derive(Clone, Copy)]
-pub enum LayerName {
-    Is(Span),
-    Bad(u8),
-}
-
-// A volume read to its end, or the refusal.
-#[derive(Clone, Copy)]
-pub enum Through {
-    Go(Now),
-    Stop(Refusal),
 }

@@ -1,7 +1,6 @@
 // A spool's fixed form: a line `answer volume line bytes`. Where the spool is accepted the fixed form follows; then what it is read back as at
 // class 15 with wire part 18, a line `answer volume line records` and the records with their places made 0; then what it is rewritten to, line and bytes.
 use crate::lent::{output_leavings, soil_output, soil_table};
-use rules::Answer;
 use sets::{read, rewrite};
 use std::io;
 use std::io::Write;
@@ -82,7 +81,7 @@ fn read_back<W: Write>(to: &mut W, written: &[u8]) -> io::Result<()> {
     soil_table(&mut table);
     let answer = read(written, FULL_CLASS, FULL_WIRE, &mut table);
     shows::answer_line(to, answer)?;
-    let Answer::Accepted(count) = answer else {
+    let Ok(count) = answer else {
         return Ok(());
     };
     places_apart(&mut table);
@@ -95,11 +94,11 @@ fn written_bytes<W: Write>(to: &mut W, spool: &[u8], out: &mut [u8]) -> io::Resu
     let answer = rewrite(spool, out);
     shows::answer_line(to, answer)?;
     match answer {
-        Answer::Accepted(count) => {
+        Ok(count) => {
             output_leavings(to, count as usize, out)?;
             Ok(count as usize)
         }
-        Answer::Refused(_f) => {
+        Err(_f) => {
             output_leavings(to, 0, out)?;
             Ok(0)
         }

@@ -1,8 +1,8 @@
 -- How the lines of DRAWING_FORMAT and of its layers' names are answered.
+use Rattle.std.specs.Prelude.{Option, Some, None, Result, Ok, Err}
 use Prim.Native.Nat.{ℕ, zero, suc, ◌+◌, ◌/◌, ◌%◌, ◌≤◌, ◌<◌}
 use mathlib.Core.Bool.{Bool, true, false, cond, ◌&&◌, ◌||◌}
 use mathlib.Core.List.{List, [], ◌∷◌, ◌++◌}
-use mathlib.Core.Option.{Option, none, some}
 use mathlib.Core.Path.{◌≡◌, refl, sym, ◌∙◌, ap, subst}
 use native.Mathlib.Omega.{arith}
 use lib.Dec.{eqb, leb, ltb}
@@ -28,20 +28,15 @@ use Rattle.rules.proofs.Chains.{clash, and_left, and_right}
 use Rattle.leaves.specs.Bytes.{bytes_of}
 use Rattle.leaves.specs.Texts.{text_rules, no_text}
 use Rattle.leaves.specs.declared.TextRule.{TextRule}
-use Rattle.leaves.specs.Readings.{count_of, read_up_to_eight}
-use Rattle.leaves.specs.declared.Count.{Count}
-use Rattle.leaves.specs.declared.Count.TheVariants as C
+use Rattle.leaves.specs.Readings.{read_up_to_eight}
 use Rattle.leaves.proofs.Bounds.{fixed-below}
 use Rattle.leaves.proofs.Ints.{pos-back}
 use Rattle.tables.specs.Tables.{table_of}
 use Rattle.entries.specs.Names.{name_in, names_in, index_from}
 use Rattle.entries.specs.Shapes.{shape_in}
 use Rattle.entries.specs.Acts.{roomy}
-use Rattle.entries.specs.declared.Index.TheVariants as I
 use Rattle.entries.specs.declared.Shape.{Shape as Placed}
 use Rattle.entries.specs.declared.Shape.TheVariants as P
-use Rattle.account.specs.declared.LayerName.{LayerName}
-use Rattle.account.specs.declared.LayerName.TheVariants as N
 use Rattle.account.specs.declared.Now.{Now}
 use Rattle.account.specs.declared.Where.{Where}
 use Rattle.account.specs.declared.Step.{Step}
@@ -105,18 +100,18 @@ letter-fits [] e = clash e refl
 letter-fits (b ∷ s) e =
     let h = number-below b 256 (bytes "BAEPM") refl (and_left (has_number b (bytes "BAEPM")) (same (take 1 s) (bytes "_") && digit_run 3 3 (drop 1 s)) e) in omega (arith, h)
 
-three-read : (s : List ℕ) → digit_run 3 3 s ≡ true → count_of (read_up_to_eight 3 s) ≡ C.Is (value s)
-three-read s d = ap (λ (b : Bool). count_of (cond b (some (value s)) none)) d
+three-read : (s : List ℕ) → digit_run 3 3 s ≡ true → read_up_to_eight 3 s ≡ Some (value s)
+three-read s d = ap (λ (b : Bool). (cond b (Some (value s)) None)) d
 
-module _ (k x : List ℕ) (i : is_layer_id k ≡ true) (e : x ≡ drop 2 k) (r : Count) (h : r ≡ count_of (read_up_to_eight 3 x)) where
-  is-value : r ≡ C.Is (value (drop 2 k))
-  is-value = h ∙ ap (λ (s : List ℕ). count_of (read_up_to_eight 3 s)) e ∙ three-read (drop 2 k) (id-parts k i).1
+module _ (k x : List ℕ) (i : is_layer_id k ≡ true) (e : x ≡ drop 2 k) (r : Option ℕ) (h : r ≡ read_up_to_eight 3 x) where
+  is-value : r ≡ Some (value (drop 2 k))
+  is-value = h ∙ ap (λ (s : List ℕ). (read_up_to_eight 3 s)) e ∙ three-read (drop 2 k) (id-parts k i).1
 
-  pub digits_are : (n : ℕ) → r ≡ C.Is n → n ≡ value (drop 2 k)
-  digits_are n q = let z : C.Is n ≡ C.Is (value (drop 2 k)) = sym q ∙ is-value in cc
+  pub digits_are : (n : ℕ) → r ≡ Some n → n ≡ value (drop 2 k)
+  digits_are n q = let z : Some n ≡ Some (value (drop 2 k)) = sym q ∙ is-value in cc
 
-  pub digits-not : r ≡ C.Not → 0 ≡ value (drop 2 k)
-  digits-not q = absurd (let z : C.Not ≡ C.Is (value (drop 2 k)) = sym q ∙ is-value in let y : ◌≡◌ {A = ℕ} 0 1 = cc in omega arith)
+  pub digits-not : r ≡ None → 0 ≡ value (drop 2 k)
+  digits-not q = absurd (let z : None ≡ Some (value (drop 2 k)) = sym q ∙ is-value in let y : ◌≡◌ {A = ℕ} 0 1 = cc in omega arith)
 
 pub digits-fit : (k : List ℕ) (n : ℕ) → is_layer_id k ≡ true → n ≡ value (drop 2 k) → n < 100000000000
 digits-fit k n i e =
@@ -144,21 +139,21 @@ id-name s p l i =
 
 -- ── a layer's name ──
 module _ (s : List ℕ) (x : Shape) (p : Placed) (h : shape_in s p ≡ x) where
-  pub name-is : (q : Placed) (r : LayerName) → p ≡ q → r ≡ name_of (layer_value [] (shape_in s q)) → r ≡ name_of (layer_value [] x)
+  pub name-is : (q : Placed) (r : Result Span ℕ) → p ≡ q → r ≡ name_of (layer_value [] (shape_in s q)) → r ≡ name_of (layer_value [] x)
   name-is q r e z = z ∙ ap (λ (u : Placed). name_of (layer_value [] (shape_in s u))) (sym e) ∙ ap (λ (y : Shape). name_of (layer_value [] y)) h
 
   module _ (c : Span) (b : List ℕ) (e : p ≡ P.Content c) (z : b ≡ bytes_at s c) where
-    abbrev judged : Bool → LayerName
+    abbrev judged : Bool → Result Span ℕ
     judged t = name_of (unless t 11 (got (chars c.at (bytes_at s c))))
 
     abbrev fitting : List ℕ → Bool
     fitting u = all (byte_in any_bytes) u && leb (length u) 20
 
-    pub name-long : fitting b ≡ false → N.Bad 11 ≡ name_of (layer_value [] x)
-    name-long f = name-is (P.Content c) (N.Bad 11) e (sym (ap judged (sym (ap fitting z) ∙ f)))
+    pub name-long : fitting b ≡ false → Err 11 ≡ name_of (layer_value [] x)
+    name-long f = name-is (P.Content c) (Err 11) e (sym (ap judged (sym (ap fitting z) ∙ f)))
 
-    pub name-short : fitting b ≡ true → N.Is (span c.at (length b)) ≡ name_of (layer_value [] x)
-    name-short f = name-is (P.Content c) (N.Is (span c.at (length b))) e (ap (λ (u : List ℕ). N.Is (span c.at (length u))) z ∙ sym (ap judged (sym (ap fitting z) ∙ f)))
+    pub name-short : fitting b ≡ true → Ok (span c.at (length b)) ≡ name_of (layer_value [] x)
+    name-short f = name-is (P.Content c) (Ok (span c.at (length b))) e (ap (λ (u : List ℕ). Ok (span c.at (length u))) z ∙ sym (ap judged (sym (ap fitting z) ∙ f)))
 
 -- by the rule of the table
 pub ruled : (b : List ℕ) (rule : TextRule) (t : Bool) → rule ≡ get_or text_rules 12 no_text → t ≡ (all (byte_in (bytes_of rule.set)) b && leb (length b) rule.most) → t ≡ (all (byte_in any_bytes) b && leb (length b) 20)
@@ -169,12 +164,12 @@ pub name-fits : (b : List ℕ) → (all (byte_in any_bytes) b && leb (length b) 
 name-fits b e = leb-true (length b) 20 (and_right (all (byte_in any_bytes) b) (leb (length b) 20) e)
 
 -- a name that was refused, and one that was not
-pub value-bad : (id : List ℕ) (x : Shape) (m : ℕ) → N.Bad m ≡ name_of (layer_value [] x) → layer_value id x ≡ bad m
+pub value-bad : (id : List ℕ) (x : Shape) (m : ℕ) → Err m ≡ name_of (layer_value [] x) → layer_value id x ≡ bad m
 value-bad id opener m e = let q : m ≡ 5 = cc in ap (λ (k : ℕ). bad k) (sym q)
 value-bad id no_content m e = absurd (let y : ◌≡◌ {A = ℕ} 0 1 = cc in omega arith)
 value-bad id (content at c) m e = go (all (byte_in any_bytes) c && leb (length c) 20) e
   where
-    go : (t : Bool) → N.Bad m ≡ name_of (unless t 11 (got (chars at c))) → unless t 11 (got (chars at c)) ≡ bad m
+    go : (t : Bool) → Err m ≡ name_of (unless t 11 (got (chars at c))) → unless t 11 (got (chars at c)) ≡ bad m
     go true e = absurd (let y : ◌≡◌ {A = ℕ} 0 1 = cc in omega arith)
     go false e = let q : m ≡ 11 = cc in ap (λ (k : ℕ). bad k) (sym q)
 value-bad id (opening at c) m e = let q : m ≡ 5 = cc in ap (λ (k : ℕ). bad k) (sym q)
@@ -185,13 +180,13 @@ pub record Named (id : List ℕ) (x : Shape) (p : Span) : Type 0 where
   pub read : layer_value id x ≡ got held
   pub two : padded 2 (numbers held) ≡ pos p.at ∷ pos p.len ∷ []
 
-pub value-is : (id : List ℕ) (x : Shape) (p : Span) → N.Is p ≡ name_of (layer_value [] x) → Named id x p
+pub value-is : (id : List ℕ) (x : Shape) (p : Span) → Ok p ≡ name_of (layer_value [] x) → Named id x p
 value-is id opener p e = absurd (let y : ◌≡◌ {A = ℕ} 0 1 = cc in omega arith)
 value-is id no_content p e =
     let q : p ≡ span 0 0 = cc in record { held = empty; read = refl; two = ap (λ (u : Span). pos u.at ∷ pos u.len ∷ []) (sym q) }
 value-is id (content at c) p e = go (all (byte_in any_bytes) c && leb (length c) 20) refl e
   where
-    go : (t : Bool) → (all (byte_in any_bytes) c && leb (length c) 20) ≡ t → N.Is p ≡ name_of (unless t 11 (got (chars at c))) → Named id (content at c) p
+    go : (t : Bool) → (all (byte_in any_bytes) c && leb (length c) 20) ≡ t → Ok p ≡ name_of (unless t 11 (got (chars at c))) → Named id (content at c) p
     go true f e =
         let q : p ≡ span at (length c) = cc in
         record { held = chars at c; read = ap (λ (b : Bool). unless b 11 (got (chars at c))) f; two = ap (λ (u : Span). pos u.at ∷ pos u.len ∷ []) (sym q) }
@@ -201,24 +196,24 @@ value-is id formless p e = absurd (let y : ◌≡◌ {A = ℕ} 0 1 = cc in omega
 
 -- ── among the names so far ──
 some-further : (o : Option ℕ) → is_some (map_o suc o) ≡ is_some o
-some-further none = refl
-some-further (some n) = refl
+some-further None = refl
+some-further (Some n) = refl
 
-pub index-among : (k : List ℕ) (us : List (List ℕ)) (i m : ℕ) → index_from i k us ≡ I.At m → among k us ≡ true
+pub index-among : (k : List ℕ) (us : List (List ℕ)) (i m : ℕ) → index_from i k us ≡ Some m → among k us ≡ true
 unfolding index_from
 index-among k [] i m e = absurd (let y : ◌≡◌ {A = ℕ} 0 1 = cc in omega arith)
 index-among k (u ∷ us) i m e = go (same k u) (λ h. index-among k us (suc i) m h) e
   where
-    go : (b : Bool) → (index_from (suc i) k us ≡ I.At m → among k us ≡ true) → cond b (I.At i) (index_from (suc i) k us) ≡ I.At m → is_some (cond b (some 0) (map_o suc (index_of k us))) ≡ true
+    go : (b : Bool) → (index_from (suc i) k us ≡ Some m → among k us ≡ true) → cond b (Some i) (index_from (suc i) k us) ≡ Some m → is_some (cond b (Some 0) (map_o suc (index_of k us))) ≡ true
     go true f e = refl
     go false f e = some-further (index_of k us) ∙ f e
 
-pub index-none : (k : List ℕ) (us : List (List ℕ)) (i : ℕ) → index_from i k us ≡ I.None → among k us ≡ false
+pub index-none : (k : List ℕ) (us : List (List ℕ)) (i : ℕ) → index_from i k us ≡ None → among k us ≡ false
 unfolding index_from
 index-none k [] i e = refl
 index-none k (u ∷ us) i e = go (same k u) (λ h. index-none k us (suc i) h) e
   where
-    go : (b : Bool) → (index_from (suc i) k us ≡ I.None → among k us ≡ false) → cond b (I.At i) (index_from (suc i) k us) ≡ I.None → is_some (cond b (some 0) (map_o suc (index_of k us))) ≡ false
+    go : (b : Bool) → (index_from (suc i) k us ≡ None → among k us ≡ false) → cond b (Some i) (index_from (suc i) k us) ≡ None → is_some (cond b (Some 0) (map_o suc (index_of k us))) ≡ false
     go true f e = absurd (let y : ◌≡◌ {A = ℕ} 0 1 = cc in omega arith)
     go false f e = some-further (index_of k us) ∙ f e
 
@@ -269,10 +264,10 @@ module _ (s : List ℕ) (n : Now) (at : Where) (id : List ℕ) (c : Rest) (tally
   pub layer_misspelt : (tally₁ layers₁ : List ℕ) (rec₁ : List ℤ) → is_layer_id id ≡ false → LayerLine s n at id tally tally₁ layers layers₁ rec rec₁ judgement (S.Stop 6)
   layer_misspelt tally₁ layers₁ rec₁ e = layer-refused 6 tally₁ layers₁ rec₁ (rw e)
 
-  pub layer-unnamed : (tally₁ layers₁ : List ℕ) (rec₁ : List ℤ) (k : ℕ) → is_layer_id id ≡ true → N.Bad k ≡ name_of (layer_value [] (free_shape_of c)) → LayerLine s n at id tally tally₁ layers layers₁ rec rec₁ judgement (S.Stop k)
+  pub layer-unnamed : (tally₁ layers₁ : List ℕ) (rec₁ : List ℤ) (k : ℕ) → is_layer_id id ≡ true → Err k ≡ name_of (layer_value [] (free_shape_of c)) → LayerLine s n at id tally tally₁ layers layers₁ rec rec₁ judgement (S.Stop k)
   layer-unnamed tally₁ layers₁ rec₁ k i e = layer-refused k tally₁ layers₁ rec₁ (rw (i, value-bad id (free_shape_of c) k e))
 
-  module _ (i : is_layer_id id ≡ true) (p : Span) (e : N.Is p ≡ name_of (layer_value [] (free_shape_of c))) where
+  module _ (i : is_layer_id id ≡ true) (p : Span) (e : Ok p ≡ name_of (layer_value [] (free_shape_of c))) where
     abbrev named : Named id (free_shape_of c) p
     named = value-is id (free_shape_of c) p e
 

@@ -1,8 +1,8 @@
 -- A symbol's name: in its record, and among the others.
+use Rattle.std.specs.Prelude.{Option, Some, None}
 use Prim.Native.Nat.{ℕ, suc, ◌<◌}
 use mathlib.Core.Bool.{Bool, true, false, cond, not}
 use mathlib.Core.List.{List, [], ◌∷◌}
-use mathlib.Core.Option.{Option, none, some}
 use mathlib.Core.Path.{◌≡◌, refl, sym, ◌∙◌, ap}
 use native.Mathlib.Omega.{arith}
 use lib.Dec.{T}
@@ -17,8 +17,6 @@ use Rattle.rules.specs.Lines.{span}
 use Rattle.rules.specs.Base.{same, map_o, is_some, index_of, among}
 use Rattle.rules.proofs.Chains.{clash, and_left, and_right}
 use Rattle.entries.specs.Names.{index_from}
-use Rattle.entries.specs.declared.Index.{Index}
-use Rattle.entries.specs.declared.Index.TheVariants as I
 use Rattle.account.specs.SymbolLines.{as_place, is_place, name_of, is_named}
 
 -- ── a place in a record, as the machine takes it ──
@@ -45,26 +43,26 @@ module _ (rec : List ℤ) where
   name_back f g = rw (to_z-of_z f, to_z-of_z g)
 
 -- ── a name among others ──
-abbrev is_none : Index → Bool
-is_none (I.At i) = false
-is_none I.None = true
+abbrev is_none : Option ℕ → Bool
+is_none (Some i) = false
+is_none None = true
 
 some-suc : (o : Option ℕ) → is_some (map_o suc o) ≡ is_some o
-some-suc none = refl
-some-suc (some i) = refl
+some-suc None = refl
+some-suc (Some i) = refl
 
 pub index-among : (k : List ℕ) (us : List (List ℕ)) (i : ℕ) → is_none (index_from i k us) ≡ not (among k us)
 unfolding index_from
 index-among k [] i = refl
 index-among k (u ∷ us) i = go (same k u) (index-among k us (suc i))
   where
-    go : (t : Bool) → is_none (index_from (suc i) k us) ≡ not (among k us) → is_none (cond t (I.At i) (index_from (suc i) k us)) ≡ not (is_some (cond t (some 0) (map_o suc (index_of k us))))
+    go : (t : Bool) → is_none (index_from (suc i) k us) ≡ not (among k us) → is_none (cond t (Some i) (index_from (suc i) k us)) ≡ not (is_some (cond t (Some 0) (map_o suc (index_of k us))))
     go true h = refl
     go false h = h ∙ ap not (sym (some-suc (index_of k us)))
 
 module _ (k : List ℕ) (us : List (List ℕ)) where
-  pub index-old : (i : ℕ) → index_from 0 k us ≡ I.At i → false ≡ not (among k us)
+  pub index-old : (i : ℕ) → index_from 0 k us ≡ Some i → false ≡ not (among k us)
   index-old i e = ap is_none (sym e) ∙ index-among k us 0
 
-  pub index-new : index_from 0 k us ≡ I.None → true ≡ not (among k us)
+  pub index-new : index_from 0 k us ≡ None → true ≡ not (among k us)
   index-new e = ap is_none (sym e) ∙ index-among k us 0

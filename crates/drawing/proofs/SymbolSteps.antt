@@ -1,8 +1,8 @@
 -- The lines of SYMBOL_DEFINE and of a symbol, by what the code was told of the line.
+use Rattle.std.specs.Prelude.{Option, Some, None}
 use Prim.Native.Nat.{ℕ, zero, suc, ◌<◌, ◌≤◌}
 use mathlib.Core.Bool.{Bool, true, false, cond, ◌&&◌, not}
 use mathlib.Core.List.{List, [], ◌∷◌}
-use mathlib.Core.Option.{Option, none, some}
 use mathlib.Core.Path.{◌≡◌, refl, sym, ◌∙◌, ap, subst}
 use native.Mathlib.Omega.{arith}
 use lib.Dec.{leb}
@@ -175,9 +175,9 @@ shape-placed key (equals at []) p = tt
 shape-placed key (equals at (b ∷ c)) p = go (stem (b ∷ c))
   where
     go : (o : Option (List ℕ)) → Placed (by_stem at (b ∷ c) o)
-    go none = p
-    go (some []) = tt
-    go (some (d ∷ t)) = tt
+    go None = p
+    go (Some []) = tt
+    go (Some (d ∷ t)) = tt
 
 abbrev name_row : Rule
 name_row = row "name" (word 32 letters_and_digits) 5

@@ -13,16 +13,15 @@ ghost use Rattle.account.specs.Numbering.{tally_length, most_rows};
 ghost use Rattle.rules.specs.RecordTable.{width};
 
 use account::{
-    BLOCK_DRAWING, BLOCK_LAYER_NAMES, BLOCK_TOP, LayerName, MOST_LAYERS, Now, PLACE_LETTER,
-    ROWS_DRAWING, Step, TALLY_LAYERS, TURN_DEFINES, Where,
+    BLOCK_DRAWING, BLOCK_LAYER_NAMES, BLOCK_TOP, MOST_LAYERS, Now, PLACE_LETTER, ROWS_DRAWING,
+    Step, TALLY_LAYERS, TURN_DEFINES, Where,
 };
 use entries::acts::act;
 use entries::names::{index_of, part};
 use entries::shapes::shape_for;
-use entries::{Index, Next, Rest, Shape};
+use entries::{Next, Rest, Shape};
 use groundwork::blocks::{at_block, digits_of};
 use groundwork::table::head;
-use leaves::Count;
 use leaves::bytes::is_layer_id;
 use leaves::numbers::fixed;
 use leaves::texts::{fits, text_rule};
@@ -73,26 +72,26 @@ pub fn on_drawing(
 const LAYER_TEXT: u8 = 12;
 
 // "name 0-20 bytes"
-fn layer_name(s: &[u8], rest: Rest) -> LayerName
+fn layer_name(s: &[u8], rest: Rest) -> Result<Span, u8>
     ensures { result ≡ name_of (layer_value [] (free_shape_of (rest_in s.now rest))) }
 {
     let shape = shape_for(s, true, rest);
     match shape {
-        Shape::Opener => LayerName::Bad(5),
-        Shape::NoContent => LayerName::Is(Span { at: 0, len: 0 }),
+        Shape::Opener => Err(5),
+        Shape::NoContent => Ok(Span { at: 0, len: 0 }),
         Shape::Content(c) => {
             let bytes = part(s, c);
             let rule = text_rule(LAYER_TEXT);
             if !fits(bytes, rule.most, rule.set) {
-                return LayerName::Bad(11);
+                return Err(11);
             }
-            LayerName::Is(Span {
+            Ok(Span {
                 at: c.at,
                 len: bytes.len() as u32,
             })
         }
-        Shape::Opening(_) => LayerName::Bad(5),
-        Shape::Formless => LayerName::Bad(5),
+        Shape::Opening(_) => Err(5),
+        Shape::Formless => Err(5),
     }
 }
 
@@ -103,8 +102,8 @@ fn layer_digits(id: &[u8]) -> u64
 {
     let read = fixed(&id[2..], 3);
     match read {
-        Count::Is(n) => n,
-        Count::Not => 0,
+        Some(n) => n,
+        None => 0,
     }
 }
 
@@ -184,16 +183,16 @@ fn layer_line(
     }
     let read = layer_name(s, rest);
     match read {
-        LayerName::Bad(n) => Step::Stop(n),
-        LayerName::Is(name) => {
+        Err(n) => Step::Stop(n),
+        Ok(name) => {
             let count = tally[TALLY_LAYERS] as usize;
             if MOST_LAYERS <= count {
                 return Step::Stop(11);
             }
             let found = index_of(s, &layers[..count], part(s, key));
             match found {
-                Index::At(_) => Step::Stop(14),
-                Index::None => Step::Go(take_layer(s, tally, layers, here, key, name, at, rec)),
+                Some(_) => Step::Stop(14),
+                None => Step::Go(take_layer(s, tally, layers, here, key, name, at, rec)),
             }
         }
     }

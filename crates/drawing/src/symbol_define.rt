@@ -14,9 +14,9 @@ use account::{
     BLOCK_DEFINES, BLOCK_FIGURES, BLOCK_HIDE, BLOCK_SYMBOL, BLOCK_TOP, INNER_ELEMENT, Now,
     PLACE_NAME, PLACE_NAME_LENGTH, ROWS_SYMBOL, Step, TALLY_SYMBOLS, TURN_ELEMENT, Where,
 };
+use entries::Next;
 use entries::acts::act;
 use entries::names::{index_of, part};
-use entries::{Index, Next};
 use groundwork::blocks::{at_block, digits_of, unmark};
 use groundwork::table::head;
 use rules::{KIND_SYMBOL, LineForm, Span};
@@ -141,8 +141,8 @@ fn is_new(s: &[u8], symbols: &[u32], name: Span) -> bool
     ensures { result ≡ is_new s.now symbols.now name }
 {
     match index_of(s, symbols, part(s, name)) {
-        Index::At(_) => false,
-        Index::None => true,
+        Some(_) => false,
+        None => true,
     }
 }
 

@@ -1,8 +1,8 @@
 -- A line in ELEMENT, from the answer about it back to its act; and the layer that `LAYER=id:{` names.
+use Rattle.std.specs.Prelude.{Option, Some, None}
 use Prim.Native.Nat.{ℕ, zero, suc, ◌<◌, ◌≤◌}
 use mathlib.Core.Bool.{Bool, true, false, cond}
 use mathlib.Core.List.{List, [], ◌∷◌}
-use mathlib.Core.Option.{Option, none, some}
 use mathlib.Core.Path.{◌≡◌, refl, sym, ◌∙◌, ap, subst}
 use native.Mathlib.Omega.{arith}
 use lib.Dec.{T}
@@ -54,15 +54,15 @@ one-row x r zero here = (refl, refl)
 one-row x r (suc j) (there w) = absurd (omega (arith, row_below w))
 
 -- ── the layer that a line names ──
-index_below : (s : List ℕ) (us : List (List ℕ)) (m : ℕ) → index_of s us ≡ some m → m < length us
+index_below : (s : List ℕ) (us : List (List ℕ)) (m : ℕ) → index_of s us ≡ Some m → m < length us
 index_below s [] m e = none-some e
 index_below s (u ∷ us) m e = go (same s u) (index_of s us) (index_below s us) e
   where
-    next : (o : Option ℕ) → ((m : ℕ) → o ≡ some m → m < length us) → map_o suc o ≡ some m → m < suc (length us)
-    next none ih e = none-some e
-    next (some i) ih e = let q : suc i ≡ m = cc in omega (arith, ih i refl, q)
+    next : (o : Option ℕ) → ((m : ℕ) → o ≡ Some m → m < length us) → map_o suc o ≡ Some m → m < suc (length us)
+    next None ih e = none-some e
+    next (Some i) ih e = let q : suc i ≡ m = cc in omega (arith, ih i refl, q)
 
-    go : (b : Bool) (o : Option ℕ) → ((m : ℕ) → o ≡ some m → m < length us) → cond b (some 0) (map_o suc o) ≡ some m → m < suc (length us)
+    go : (b : Bool) (o : Option ℕ) → ((m : ℕ) → o ≡ Some m → m < length us) → cond b (Some 0) (map_o suc o) ≡ Some m → m < suc (length us)
     go true o ih e = let q : 0 ≡ m = cc in omega (arith, q)
     go false o ih e = next o ih e
 

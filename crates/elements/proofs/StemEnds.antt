@@ -1,8 +1,8 @@
 -- Content that ends in `:{`.
+use Rattle.std.specs.Prelude.{Option, Some, None}
 use Prim.Native.Nat.{ℕ, suc, ◌+◌, ◌-◌, ◌<◌, ◌≤◌}
 use mathlib.Core.Bool.{Bool, true, false, cond, ◌&&◌}
 use mathlib.Core.List.{List, [], ◌∷◌}
-use mathlib.Core.Option.{Option, none, some}
 use mathlib.Core.Path.{◌≡◌, refl, sym, ◌∙◌, ap}
 use native.Mathlib.Omega.{arith}
 use lib.Dec.{eqb}
@@ -19,11 +19,11 @@ use Rattle.account.specs.declared.Skipped.TheVariants as S
 use Rattle.account.specs.SkippedLines.{skipped_as, skip_content}
 
 map-is-some : (b : ℕ) (o : Option (List ℕ)) → is_some (map_o (λ t. b ∷ t) o) ≡ is_some o
-map-is-some b none = refl
-map-is-some b (some t) = refl
+map-is-some b None = refl
+map-is-some b (Some t) = refl
 
 -- one byte
-one_byte : (b : ℕ) → stem (b ∷ []) ≡ none
+one_byte : (b : ℕ) → stem (b ∷ []) ≡ None
 one_byte b = rw (and_false (eqb b 58))
 
 pub too_short : (c : List ℕ) → length c < 2 → is_some (stem c) ≡ false
@@ -34,7 +34,7 @@ too_short (b ∷ d ∷ c) h = absurd (omega arith)
 two_bytes : (b d : ℕ) → is_some (stem (b ∷ d ∷ [])) ≡ same (b ∷ d ∷ []) (bytes ":{")
 two_bytes b d = go (same (b ∷ d ∷ []) (bytes ":{")) (stem (d ∷ [])) (one_byte d)
   where
-    go : (t : Bool) (o : Option (List ℕ)) → o ≡ none → is_some (cond t (some []) (map_o (λ u. b ∷ u) o)) ≡ t
+    go : (t : Bool) (o : Option (List ℕ)) → o ≡ None → is_some (cond t (Some []) (map_o (λ u. b ∷ u) o)) ≡ t
     go true o e = refl
     go false o e = map-is-some b o ∙ ap is_some e
 
@@ -48,7 +48,7 @@ ends (b ∷ []) h = absurd (omega arith)
 ends (b ∷ d ∷ []) h = two_bytes b d
 ends (b ∷ d ∷ e ∷ c) h =
     let z : suc (length (d ∷ e ∷ c) - 2) ≡ length (b ∷ d ∷ e ∷ c) - 2 = omega arith in
-    ap (λ (t : Bool). is_some (cond t (some []) (map_o (λ u. b ∷ u) (stem (d ∷ e ∷ c))))) (longer b d e c)
+    ap (λ (t : Bool). is_some (cond t (Some []) (map_o (λ u. b ∷ u) (stem (d ∷ e ∷ c))))) (longer b d e c)
     ∙ map-is-some b (stem (d ∷ e ∷ c))
     ∙ ends (d ∷ e ∷ c) (omega arith)
     ∙ ap (λ (n : ℕ). same (drop n (b ∷ d ∷ e ∷ c)) (bytes ":{")) z
@@ -58,7 +58,7 @@ last-two c h =
     ends c h ∙ ap (λ (u : List ℕ). same u (bytes ":{")) (sym (take_all (length c - (length c - 2)) (drop (length c - 2) c) (le_of_eq (length-drop (length c - 2) c))))
 
 -- ── what is left without the two ──
-stem-length : (c t : List ℕ) → stem c ≡ some t → length c ≡ length t + 2
+stem-length : (c t : List ℕ) → stem c ≡ Some t → length c ≡ length t + 2
 stem-length [] t e = none-some e
 stem-length (b ∷ c) t e = go (same (b ∷ c) (bytes ":{")) refl (λ u q. stem-length c u q) e
   where
@@ -72,8 +72,8 @@ stem-length (b ∷ c) t e = go (same (b ∷ c) (bytes ":{")) refl (λ u q. stem-
         go true ih q = ap suc (ih q)
         go false ih q = clash q refl
 
-    go : (f : Bool) → same (b ∷ c) (bytes ":{") ≡ f → ((u : List ℕ) → stem c ≡ some u → length c ≡ length u + 2)
-        → cond f (some []) (map_o (λ u. b ∷ u) (stem c)) ≡ some t → length (b ∷ c) ≡ length t + 2
+    go : (f : Bool) → same (b ∷ c) (bytes ":{") ≡ f → ((u : List ℕ) → stem c ≡ Some u → length c ≡ length u + 2)
+        → cond f (Some []) (map_o (λ u. b ∷ u) (stem c)) ≡ Some t → length (b ∷ c) ≡ length t + 2
     go true q ih e = let n = two (b ∷ c) (bytes ":{") q in let z : [] ≡ t = cc in let l = ap length z in omega arith
     go false q ih e =
         let (u, p, z) = map-some (λ u. b ∷ u) (stem c) t e in
@@ -88,9 +88,9 @@ module _ (at : ℕ) where
   anywhere (b ∷ c) = go (stem (b ∷ c))
     where
       go : (o : Option (List ℕ)) → skipped_as (skip_shape (by_stem 0 (b ∷ c) o)) ≡ skipped_as (skip_shape (by_stem at (b ∷ c) o))
-      go none = refl
-      go (some []) = refl
-      go (some (d ∷ t)) = refl
+      go None = refl
+      go (Some []) = refl
+      go (Some (d ∷ t)) = refl
 
 pub content-passes : (c : List ℕ) → is_some (stem c) ≡ false → skip_content c ≡ S.Passes
 unfolding skip_content
@@ -98,8 +98,8 @@ content-passes [] h = refl
 content-passes (b ∷ c) h = go (stem (b ∷ c)) h
   where
     go : (o : Option (List ℕ)) → is_some o ≡ false → skipped_as (skip_shape (by_stem 0 (b ∷ c) o)) ≡ S.Passes
-    go none h = refl
-    go (some t) h = clash refl h
+    go None h = refl
+    go (Some t) h = clash refl h
 
 pub content-formless : (c : List ℕ) → is_some (stem c) ≡ true → length c ≡ 2 → skip_content c ≡ S.Refuse 5
 unfolding skip_content
@@ -107,9 +107,9 @@ content-formless [] h l = clash h refl
 content-formless (b ∷ c) h l = go (stem (b ∷ c)) refl h
   where
     go : (o : Option (List ℕ)) → stem (b ∷ c) ≡ o → is_some o ≡ true → skipped_as (skip_shape (by_stem 0 (b ∷ c) o)) ≡ S.Refuse 5
-    go none e h = clash h refl
-    go (some []) e h = refl
-    go (some (d ∷ t)) e h = let n = stem-length (b ∷ c) (d ∷ t) e in absurd (omega arith)
+    go None e h = clash h refl
+    go (Some []) e h = refl
+    go (Some (d ∷ t)) e h = let n = stem-length (b ∷ c) (d ∷ t) e in absurd (omega arith)
 
 pub content-opens : (c : List ℕ) → is_some (stem c) ≡ true → (length c ≡ 2 → ⊥) → skip_content c ≡ S.Deeper
 unfolding skip_content
@@ -117,9 +117,9 @@ content-opens [] h l = clash h refl
 content-opens (b ∷ c) h l = go (stem (b ∷ c)) refl h
   where
     go : (o : Option (List ℕ)) → stem (b ∷ c) ≡ o → is_some o ≡ true → skipped_as (skip_shape (by_stem 0 (b ∷ c) o)) ≡ S.Deeper
-    go none e h = clash h refl
-    go (some []) e h = absurd (l (stem-length (b ∷ c) [] e))
-    go (some (d ∷ t)) e h = refl
+    go None e h = clash h refl
+    go (Some []) e h = absurd (l (stem-length (b ∷ c) [] e))
+    go (Some (d ∷ t)) e h = refl
 
 -- ── behind `=` ──
 module _ (s : List ℕ) (q : Equation) where

@@ -30,7 +30,7 @@ use groundwork::classes::{both, exceeds, hides};
 use groundwork::serials::{content_at, keep_own};
 use rules::{Digits, LineForm, Span};
 use tables::lookup::row_of;
-use tables::{Found, TABLE_PLACED, TABLE_PLACED_TEXT};
+use tables::{TABLE_PLACED, TABLE_PLACED_TEXT};
 
 // The row `serial` of a placed symbol (`serial_row` in the definitions).
 const SERIAL_ROW: u8 = 5;
@@ -166,8 +166,8 @@ fn on_key(
     ensures { KeyLine (known_in s.now symbols.now layers.now) class range here (lent tally.old serials.old marks.old inner.old) (lent tally.new serials.new marks.new inner.new) rec.old rec.new result (skipped_by (form_in s.now form)) (rest_in s.now rest) (find (bytes_at s.now key) (table_of table_placed)) }
 {
     match row_of(TABLE_PLACED, part(s, key)) {
-        Found::Absent => on_unknown(s, class, range, here, form, rest),
-        Found::Row(row) => {
+        None => on_unknown(s, class, range, here, form, rest),
+        Some(row) => {
             let least = row.least;
             if !reaches(class, least) {
                 return on_unknown(s, class, range, here, form, rest);

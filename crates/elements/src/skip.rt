@@ -5,7 +5,7 @@ ghost use Rattle.rules.specs.Lines.{stem, equals, bytes_at, form_in};
 ghost use Rattle.rules.specs.RangeClass.{skip_of};
 ghost use Rattle.account.specs.SkippedLines.{skipped_as, skip_content, skipped_by, early_skip, SkipReady, SkipMet};
 
-use account::{Left, Pos, Skipped, Volume};
+use account::{Pos, Skipped, Volume};
 use entries::names::part;
 use groundwork::classes::less;
 use groundwork::walk::next_line;
@@ -75,7 +75,7 @@ fn early_skip(did: Skipped) -> u8
 
 // From just inside a skipped block of the volume with the bytes `body` to just past its `}`. An inner block is skipped by a call of itself:
 // `left` blocks may be open in each other, this one counted.
-pub fn skip_block(s: &[u8], body: &[u8], v: Volume, p: Pos, left: u8) -> Left
+pub fn skip_block(s: &[u8], body: &[u8], v: Volume, p: Pos, left: u8) -> Result<Pos, Refusal>
     requires { SkipReady p left }
     ensures { SkipMet s.now body.now v p left result }
 {
@@ -88,7 +88,7 @@ pub fn skip_block(s: &[u8], body: &[u8], v: Volume, p: Pos, left: u8) -> Left
         at = seen.next;
         line += 1;
         if seen.last {
-            return Left::Stop(Refusal {
+            return Err(Refusal {
                 number: early_skip(did),
                 volume: v.number,
                 line: line,
@@ -97,10 +97,10 @@ pub fn skip_block(s: &[u8], body: &[u8], v: Volume, p: Pos, left: u8) -> Left
         match did {
             Skipped::Passes => {}
             Skipped::Shut => {
-                return Left::Go(Pos { at: at, line: line });
+                return Ok(Pos { at: at, line: line });
             }
             Skipped::Refuse(n) => {
-                return Left::Stop(Refusal {
+                return Err(Refusal {
                     number: n,
                     volume: v.number,
                     line: line,
@@ -108,14 +108,14 @@ pub fn skip_block(s: &[u8], body: &[u8], v: Volume, p: Pos, left: u8) -> Left
             }
             Skipped::Deeper => {
                 if left == 1 {
-                    return Left::Stop(Refusal {
+                    return Err(Refusal {
                         number: 18,
                         volume: v.number,
                         line: line,
                     });
                 }
                 let r = skip_block(s, body, v, Pos { at: at, line: line }, left - 1);
-                let Left::Go(q) = r else {
+                let Ok(q) = r else {
                     return r;
                 };
                 at = q.at;

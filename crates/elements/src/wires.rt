@@ -42,7 +42,7 @@ use groundwork::serials::{content_at, keep_own};
 use groundwork::table::head;
 use rules::{Class, Digits, KIND_EDGE, KIND_WIRE_MORE, LineForm, Span, WIDTH};
 use tables::lookup::row_of;
-use tables::{Found, Row, TABLE_LAYER_TEXT, TABLE_WIRE};
+use tables::{Row, TABLE_LAYER_TEXT, TABLE_WIRE};
 
 // The row `line` of a wire's table.
 const LINE_ROW: u8 = 0;
@@ -387,8 +387,8 @@ fn on_wire_key(
     let rest = rest_of(form);
     let range = tally[TALLY_WIRE_RANGE];
     match row_of(TABLE_WIRE, part(s, key_of(form))) {
-        Found::Absent => on_unknown(s, x.class.wires, digits_of(range), past(here), form, rest),
-        Found::Row(row) => {
+        None => on_unknown(s, x.class.wires, digits_of(range), past(here), form, rest),
+        Some(row) => {
             let number = row.number;
             let least = row.least;
             if is_misplaced(here, number) {

@@ -1,9 +1,9 @@
 -- What a line with a key is: content that opens, by its last two bytes; the form that a row asks for.
+use Rattle.std.specs.Prelude.{Option, Some, None}
 use Prim.Native.Nat.{ℕ, suc, ◌-◌, ◌/◌, ◌%◌, ◌<◌, ◌≤◌}
 use mathlib.Core.Path.{◌≡◌, refl, ap, sym, ◌∙◌}
 use mathlib.Core.Bool.{Bool, true, false, cond, ◌&&◌, ◌||◌, not}
 use mathlib.Core.List.{List, [], ◌∷◌}
-use mathlib.Core.Option.{Option, none, some}
 use native.Mathlib.Omega.{arith}
 use lib.Dec.{eqb, leb}
 use lib.ListN.{length, get_or, take, drop, length-take}
@@ -25,9 +25,9 @@ use Rattle.entries.specs.declared.Shape.TheVariants as P
 
 -- ── the last two bytes ──
 abbrev stem_by : Bool → List ℕ → Option (List ℕ)
-stem_by t c = cond t (some (take (length c - 2) c)) none
+stem_by t c = cond t (Some (take (length c - 2) c)) None
 
-one_byte : (b : ℕ) → stem (b ∷ []) ≡ none
+one_byte : (b : ℕ) → stem (b ∷ []) ≡ None
 one_byte b = rw (and_false (eqb b 58))
 
 no-two : (b d f : ℕ) (s : List ℕ) → same (b ∷ d ∷ f ∷ s) (bytes ":{") ≡ false
@@ -95,7 +95,7 @@ module _ (at : ℕ) where
       let z : suc (length c) - 2 ≡ 0 = omega arith in
       sym (rw e (ap (by_stem at (b ∷ c)) (stem-is (b ∷ c) ∙ ap (λ (t : Bool). stem_by t (b ∷ c)) n) ∙ rw z))
 
-  stem-opening : (b : ℕ) (c : List ℕ) (n : ℕ) → by_stem at (b ∷ c) (some (take (suc n) (b ∷ c))) ≡ opening at (take (suc n) (b ∷ c))
+  stem-opening : (b : ℕ) (c : List ℕ) (n : ℕ) → by_stem at (b ∷ c) (Some (take (suc n) (b ∷ c))) ≡ opening at (take (suc n) (b ∷ c))
   stem-opening b c n = refl
 
   pub shape-opening : (free : Bool) (c : List ℕ) → (length c ≡ 0 → ⊥) → (length c ≡ 2 → ⊥) → free ≡ false → ends_open c ≡ true → opening at (take (length c - 2) c) ≡ shape_by free (equals at c)

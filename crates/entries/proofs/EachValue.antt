@@ -1,9 +1,9 @@
 -- The values of a line, one after the other, and the rules across them.
+use Rattle.std.specs.Prelude.{Option, Some, None, Result, Ok, Err, ⊤}
 use Prim.Native.Nat.{ℕ, zero, suc, ◌+◌, ◌-◌, ◌/◌, ◌%◌, ◌<◌, ◌≤◌, min}
 use mathlib.Core.Path.{◌≡◌, refl, ap, sym, ◌∙◌}
 use mathlib.Core.Bool.{Bool, true, false, cond}
 use mathlib.Core.List.{List, [], ◌∷◌, map}
-use mathlib.Core.Option.{Option, none, some}
 use native.Mathlib.Omega.{arith}
 use native.Mathlib.Numerals.{add-one, sub-one}
 use lib.IntN.{ℤ, pos}
@@ -22,11 +22,7 @@ use Rattle.leaves.proofs.Cuts.{up_to-le, up_to-none, past-drop, split-last, spli
 use Rattle.tables.specs.Rows.{part_of, parts_of}
 use Rattle.entries.specs.Parts.{val_of, PieceIs}
 use Rattle.entries.specs.Entering.{On, Puts, done_of, put_val, least_of, plainly, last_of, covered, number_from, amount_from, agree_from}
-use Rattle.entries.specs.declared.Val.{Val}
-use Rattle.entries.specs.declared.Val.TheVariants as Vs
 use Rattle.entries.specs.declared.Piece.{Piece}
-use Rattle.entries.specs.declared.Put.{Put}
-use Rattle.entries.specs.declared.Put.TheVariants.{Done, Refused}
 
 -- ── the numbers at the places from p on ──
 module _ (d : ℤ) where
@@ -99,20 +95,20 @@ ten-unless true n g h k = k
 ten-unless false n g h k = h
 
 ten-or : (n : ℕ) (o : Option ℕ) → 10 ≤ n → TenUp (natural (or_bad n o))
-ten-or n none h = h
-ten-or n (some a) h = tt
+ten-or n None h = h
+ten-or n (Some a) h = tt
 
 ten-kept : (n : ℕ) (p : ℕ → Bool) (o : Option ℕ) → 10 ≤ n → TenUp (natural (keep n p (or_bad 10 o)))
-ten-kept n p none h = omega arith
-ten-kept n p (some a) h = go (p a)
+ten-kept n p None h = omega arith
+ten-kept n p (Some a) h = go (p a)
   where
     go : (t : Bool) → TenUp (natural (unless t n (got a)))
     go true = tt
     go false = h
 
 ten-decimal : (n : ℕ) (p : ℤ → Bool) (o : Option ℤ) → 10 ≤ n → TenUp (map_g num (keep n p (or_bad 10 o)))
-ten-decimal n p none h = omega arith
-ten-decimal n p (some a) h = go (p a)
+ten-decimal n p None h = omega arith
+ten-decimal n p (Some a) h = go (p a)
   where
     go : (t : Bool) → TenUp (map_g num (unless t n (got a)))
     go true = tt
@@ -137,20 +133,20 @@ ten-cons (got n) h = refl
 ten-cons (bad m) h = let e : min m 10 ≡ 10 = omega arith in rw e
 
 -- ── one after the other ──
-cons-put : (g : Got Num) (x : Got (List Num)) (t t₂ : List ℤ) (p : ℕ) (r : Put) → Puts x (λ v. sets (put_val (val_of g) p t) (suc p) (plainly v)) t₂ r
+cons-put : (g : Got Num) (x : Got (List Num)) (t t₂ : List ℤ) (p : ℕ) (r : Result ⊤ ℕ) → Puts x (λ v. sets (put_val (val_of g) p t) (suc p) (plainly v)) t₂ r
     → Puts (cons_g g x) (λ v. sets t p (plainly v)) t₂ (least_of (done_of (val_of g)) r)
 cons-put (got n) (got s) t t₂ p r h = record { eq = h.eq; filled = h.filled }
 cons-put (got n) (bad m) t t₂ p r h = record { eq = h.eq; filled = tt }
-cons-put (bad m) (got s) t t₂ p r h = record { eq = ap (least_of (Refused m)) h.eq; filled = tt }
-cons-put (bad m) (bad n) t t₂ p r h = record { eq = ap (least_of (Refused m)) h.eq; filled = tt }
+cons-put (bad m) (got s) t t₂ p r h = record { eq = ap (least_of (Err m)) h.eq; filled = tt }
+cons-put (bad m) (bad n) t t₂ p r h = record { eq = ap (least_of (Err m)) h.eq; filled = tt }
 
 last-put : (g : Got Num) (t : List ℤ) (p : ℕ) → Puts (cons_g g (got [])) (λ v. sets t p (plainly v)) (put_val (val_of g) p t) (done_of (val_of g))
 last-put (got n) t p = record { eq = refl; filled = refl }
 last-put (bad m) t p = record { eq = refl; filled = tt }
 
-pub put-long : (v : Val) (p : ℕ) (t : List ℤ) → length (put_val v p t) ≡ length t
-put-long (Vs.Is z) p t = length-set t p z
-put-long (Vs.Bad n) p t = refl
+pub put-long : (v : Result ℤ ℕ) (p : ℕ) (t : List ℤ) → length (put_val v p t) ≡ length t
+put-long (Ok z) p t = length-set t p z
+put-long (Err n) p t = refl
 
 parts_none : (n c : ℕ) → n ≡ 0 → parts_of n c ≡ []
 unfolding parts_of
@@ -180,22 +176,22 @@ module _ (k : Known) (parts more : ℕ) (c : List ℕ) where
   abbrev pub wanted : Got (List Num)
   wanted = read_all k (part_of (parts % 100) ∷ parts_of more (parts / 100)) (split 44 c)
 
-  too_many : (w : List Num → List ℤ) (t : List ℤ) → length (up_to 44 c) < length c → more ≡ 0 → Puts wanted w t (Refused 10)
+  too_many : (w : List Num → List ℤ) (t : List ℤ) → length (up_to 44 c) < length c → more ≡ 0 → Puts wanted w t (Err 10)
   too_many w t l z =
       rw (parts_none more (parts / 100) z, split-more 44 c l, split-some (past 44 c) k, ten-cons (read_part k (part_of (parts % 100)) (up_to 44 c)) (ten-part k (part_of (parts % 100)) (up_to 44 c)))
       (record { eq = refl; filled = tt })
 
-  too_few : (w : List Num → List ℤ) (t : List ℤ) → length c ≤ length (up_to 44 c) → (more ≡ 0 → ⊥) → Puts wanted w t (Refused 10)
+  too_few : (w : List Num → List ℤ) (t : List ℤ) → length c ≤ length (up_to 44 c) → (more ≡ 0 → ⊥) → Puts wanted w t (Err 10)
   too_few w t l z =
       rw (parts_more more (parts / 100) z, split-last 44 c l, ten-cons (read_part k (part_of (parts % 100)) c) (ten-part k (part_of (parts % 100)) c))
       (record { eq = refl; filled = tt })
 
-  module _ (v : Val) (p : ℕ) (t : List ℤ) (told : v ≡ val_of (read_part k (part_of (parts % 100)) (up_to 44 c))) where
-    the_last : (t₂ : List ℤ) (a : Put) → length c ≤ length (up_to 44 c) → more ≡ 0 → a ≡ done_of v → t₂ ≡ put_val v p t → Puts wanted (λ v. sets t p (plainly v)) t₂ a
+  module _ (v : Result ℤ ℕ) (p : ℕ) (t : List ℤ) (told : v ≡ val_of (read_part k (part_of (parts % 100)) (up_to 44 c))) where
+    the_last : (t₂ : List ℤ) (a : Result ⊤ ℕ) → length c ≤ length (up_to 44 c) → more ≡ 0 → a ≡ done_of v → t₂ ≡ put_val v p t → Puts wanted (λ v. sets t p (plainly v)) t₂ a
     the_last t₂ a l z e f =
         rw (parts_none more (parts / 100) z, split-last 44 c l, e, f, told, up_to-none 44 c l) (last-put (read_part k (part_of (parts % 100)) c) t p)
 
-    and-more : (e : ℕ) (t₁ t₂ : List ℤ) (a r : Put) → e ≡ length (up_to 44 c) → e < length c → (more ≡ 0 → ⊥) → a ≡ done_of v → t₁ ≡ put_val v p t
+    and-more : (e : ℕ) (t₁ t₂ : List ℤ) (a r : Result ⊤ ℕ) → e ≡ length (up_to 44 c) → e < length c → (more ≡ 0 → ⊥) → a ≡ done_of v → t₁ ≡ put_val v p t
         → Puts (read_all k (part_of (parts / 100 % 100) ∷ parts_of (more - 1) (parts / 100 / 100)) (split 44 (drop (e + 1) c))) (λ v. sets t₁ (p + 1) (plainly v)) t₂ r
         → Puts wanted (λ v. sets t p (plainly v)) t₂ (least_of a r)
     and-more e t₁ t₂ a r q l z d f h =
@@ -205,24 +201,24 @@ module _ (k : Known) (parts more : ℕ) (c : List ℕ) where
         (cons-put (read_part k (part_of (parts % 100)) (up_to 44 c)) (read_all k (part_of (parts / 100 % 100) ∷ parts_of (more - 1) (parts / 100 / 100)) (split 44 (drop (suc (length (up_to 44 c))) c))) t t₂ p r h₁)
 
 -- ── the loop over them ──
-least-behind : (a b r : Put) → least_of a (least_of b r) ≡ least_of (least_of a b) r
-least-behind Done b r = refl
-least-behind (Refused l) Done r = refl
-least-behind (Refused l) (Refused m) Done = refl
-least-behind (Refused l) (Refused m) (Refused n) = let e : min l (min m n) ≡ min (min l m) n = omega arith in rw e
+least-behind : (a b r : Result ⊤ ℕ) → least_of a (least_of b r) ≡ least_of (least_of a b) r
+least-behind (Ok tt) b r = refl
+least-behind (Err l) (Ok tt) r = refl
+least-behind (Err l) (Err m) (Ok tt) = refl
+least-behind (Err l) (Err m) (Err n) = let e : min l (min m n) ≡ min (min l m) n = omega arith in rw e
 
 -- What is left of the values of c: those from place i on, by their forms in `codes` (one, and `left` more), to the places from q on.
 -- Whatever they answer, all of c answers that or the smallest number so far.
-pub record Going (k : Known) (parts more : ℕ) (c : List ℕ) (p : ℕ) (t : List ℤ) (codes left q i : ℕ) (worst : Put) (t₁ : List ℤ) : Type 0 where
+pub record Going (k : Known) (parts more : ℕ) (c : List ℕ) (p : ℕ) (t : List ℤ) (codes left q i : ℕ) (worst : Result ⊤ ℕ) (t₁ : List ℤ) : Type 0 where
   pub within : i ≤ length c
   pub room : q + left < length t₁
   pub kept : length t₁ ≡ length t
-  pub whole : (t₂ : List ℤ) (r : Put) → Puts (wanted k codes left (drop i c)) (λ v. sets t₁ q (plainly v)) t₂ r → Puts (wanted k parts more c) (λ v. sets t p (plainly v)) t₂ (least_of worst r)
+  pub whole : (t₂ : List ℤ) (r : Result ⊤ ℕ) → Puts (wanted k codes left (drop i c)) (λ v. sets t₁ q (plainly v)) t₂ r → Puts (wanted k parts more c) (λ v. sets t p (plainly v)) t₂ (least_of worst r)
 
-pub going_start : (k : Known) (parts more : ℕ) (c : List ℕ) (p : ℕ) (t : List ℤ) → p + more < length t → Going k parts more c p t parts more p 0 Done t
+pub going_start : (k : Known) (parts more : ℕ) (c : List ℕ) (p : ℕ) (t : List ℤ) → p + more < length t → Going k parts more c p t parts more p 0 (Ok tt) t
 going_start k parts more c p t h = record { within = omega arith; room = h; kept = refl; whole = λ t₂ r x. x }
 
-module _ (k : Known) (parts more : ℕ) (c : List ℕ) (p : ℕ) (t : List ℤ) (codes left q i : ℕ) (worst : Put) (t₁ : List ℤ) (g : Going k parts more c p t codes left q i worst t₁) (a : Piece)
+module _ (k : Known) (parts more : ℕ) (c : List ℕ) (p : ℕ) (t : List ℤ) (codes left q i : ℕ) (worst : Result ⊤ ℕ) (t₁ : List ℤ) (g : Going k parts more c p t codes left q i worst t₁) (a : Piece)
     (h : PieceIs k (codes % 100) (take (length c - i) (drop i c)) a) where
   piece-val : a.val ≡ val_of (read_part k (part_of (codes % 100)) (up_to 44 (drop i c)))
   piece-val = rw (rest_all i c) at h.val
@@ -233,17 +229,17 @@ module _ (k : Known) (parts more : ℕ) (c : List ℕ) (p : ℕ) (t : List ℤ) 
   pub piece-within : i + a.end ≤ length c
   piece-within = omega (arith, piece-end, up_to-le 44 (drop i c), length-drop i c, g.within)
 
-  pub going-few : (t₂ : List ℤ) (b : Put) → length c ≤ i + a.end → (left ≡ 0 → ⊥) → b ≡ least_of worst (Refused 10) → Puts (wanted k parts more c) (λ v. sets t p (plainly v)) t₂ b
-  going-few t₂ b l z o = rw o (g.whole t₂ (Refused 10) (too_few k codes left (drop i c) (λ v. sets t₁ q (plainly v)) t₂ (omega (arith, piece-end, length-drop i c)) z))
+  pub going-few : (t₂ : List ℤ) (b : Result ⊤ ℕ) → length c ≤ i + a.end → (left ≡ 0 → ⊥) → b ≡ least_of worst (Err 10) → Puts (wanted k parts more c) (λ v. sets t p (plainly v)) t₂ b
+  going-few t₂ b l z o = rw o (g.whole t₂ (Err 10) (too_few k codes left (drop i c) (λ v. sets t₁ q (plainly v)) t₂ (omega (arith, piece-end, length-drop i c)) z))
 
-  pub going-many : (t₂ : List ℤ) (b : Put) → i + a.end < length c → left ≡ 0 → b ≡ least_of worst (Refused 10) → Puts (wanted k parts more c) (λ v. sets t p (plainly v)) t₂ b
-  going-many t₂ b l z o = rw o (g.whole t₂ (Refused 10) (too_many k codes left (drop i c) (λ v. sets t₁ q (plainly v)) t₂ (omega (arith, piece-end, length-drop i c)) z))
+  pub going-many : (t₂ : List ℤ) (b : Result ⊤ ℕ) → i + a.end < length c → left ≡ 0 → b ≡ least_of worst (Err 10) → Puts (wanted k parts more c) (λ v. sets t p (plainly v)) t₂ b
+  going-many t₂ b l z o = rw o (g.whole t₂ (Err 10) (too_many k codes left (drop i c) (λ v. sets t₁ q (plainly v)) t₂ (omega (arith, piece-end, length-drop i c)) z))
 
-  pub going-last : (t₂ : List ℤ) (r b : Put) → length c ≤ i + a.end → left ≡ 0 → r ≡ done_of a.val → t₂ ≡ put_val a.val q t₁ → b ≡ least_of worst r
+  pub going-last : (t₂ : List ℤ) (r b : Result ⊤ ℕ) → length c ≤ i + a.end → left ≡ 0 → r ≡ done_of a.val → t₂ ≡ put_val a.val q t₁ → b ≡ least_of worst r
       → Puts (wanted k parts more c) (λ v. sets t p (plainly v)) t₂ b
   going-last t₂ r b l z d f o = rw o (g.whole t₂ r (the_last k codes left (drop i c) a.val q t₁ piece-val t₂ r (omega (arith, piece-end, length-drop i c)) z d f))
 
-  pub going_more : (t₂ : List ℤ) (r b : Put) → i + a.end < length c → (left ≡ 0 → ⊥) → r ≡ done_of a.val → t₂ ≡ put_val a.val q t₁ → b ≡ least_of worst r
+  pub going_more : (t₂ : List ℤ) (r b : Result ⊤ ℕ) → i + a.end < length c → (left ≡ 0 → ⊥) → r ≡ done_of a.val → t₂ ≡ put_val a.val q t₁ → b ≡ least_of worst r
       → Going k parts more c p t (codes / 100) (left - 1) (q + 1) (i + a.end + 1) b t₂
   going_more t₂ r b l z d f o =
       record {
@@ -275,15 +271,15 @@ unfolding parts_of
 parts-long zero c = refl
 parts-long (suc n) c = ap suc (parts-long n (c / 100))
 
-pub done-not : {P : Type 0} (n : ℕ) → Done ≡ Refused n → P
+pub done-not : {P : Type 0} (n : ℕ) → (Ok tt) ≡ Err n → P
 done-not n e = absurd (let z : ◌≡◌ {A = ℕ} 0 1 = cc in omega arith)
 
-module _ (ac : Across) (t t₁ : List ℤ) (p n : ℕ) (a : Put) where
-  pub across-by : (g : Got (List Num)) (b : Bool) → On (λ v. length v ≡ n) g → Puts g (λ v. sets t p (plainly v)) t₁ a → a ≡ Done → (m : ℕ) → n ≡ suc m → covered ac m ≡ true → p + n ≤ length t → agree_from ac p t₁ ≡ b
-      → Puts (map_g nums (keep 11 (agree ac) g)) (λ v. sets t p (numbers v)) t₁ (cond b Done (Refused 11))
+module _ (ac : Across) (t t₁ : List ℤ) (p n : ℕ) (a : Result ⊤ ℕ) where
+  pub across-by : (g : Got (List Num)) (b : Bool) → On (λ v. length v ≡ n) g → Puts g (λ v. sets t p (plainly v)) t₁ a → a ≡ (Ok tt) → (m : ℕ) → n ≡ suc m → covered ac m ≡ true → p + n ≤ length t → agree_from ac p t₁ ≡ b
+      → Puts (map_g nums (keep 11 (agree ac) g)) (λ v. sets t p (numbers v)) t₁ (cond b (Ok tt) (Err 11))
   across-by (bad k) b s h d m z l r e = done-not k (sym d ∙ h.eq)
   across-by (got v) b s h d m z l r e = go b (sym (agree-is v t p (omega (arith, s, r)) ac m (s ∙ z) l) ∙ ap (agree_from ac p) (sym h.filled) ∙ e)
     where
-      go : (b : Bool) → agree ac v ≡ b → Puts (map_g nums (keep 11 (agree ac) (got v))) (λ v. sets t p (numbers v)) t₁ (cond b Done (Refused 11))
+      go : (b : Bool) → agree ac v ≡ b → Puts (map_g nums (keep 11 (agree ac) (got v))) (λ v. sets t p (numbers v)) t₁ (cond b (Ok tt) (Err 11))
       go true q = rw q (record { eq = refl; filled = h.filled })
       go false q = rw q (record { eq = refl; filled = tt })

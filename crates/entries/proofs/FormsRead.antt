@@ -1,4 +1,5 @@
 -- What the forms chosen for a content stand for: its row's values and the rule across them, or a circle's in a symbol.
+use Rattle.std.specs.Prelude.{Result, Ok, Err, ⊤}
 use Prim.Native.Nat.{ℕ, suc, ◌+◌, ◌/◌, ◌%◌, ◌<◌, ◌≤◌}
 use mathlib.Core.Path.{◌≡◌, refl, ap, sym, ◌∙◌, subst}
 use mathlib.Core.Bool.{Bool, true, false, cond}
@@ -20,8 +21,6 @@ use Rattle.tables.specs.declared.Row.{Row}
 use Rattle.entries.specs.Entering.{On, Puts, plainly, covered, settled, agree_from}
 use Rattle.entries.specs.Forms.{own_forms, of_arc, of_whole, forms_for}
 use Rattle.entries.specs.declared.Forms.{Forms}
-use Rattle.entries.specs.declared.Put.{Put}
-use Rattle.entries.specs.declared.Put.TheVariants.{Done, Refused}
 use Rattle.entries.proofs.EachValue.{map-long, long-all, parts-long, done-not, across-by}
 
 -- ── how many values there are ──
@@ -106,8 +105,8 @@ plainly-more : (v : List Num) → plainly (v ++ no_turn ∷ []) ≡ plainly v ++
 plainly-more [] = refl
 plainly-more (n ∷ v) = ap (λ (zs : List ℤ). n.value ∷ zs) (plainly-more v)
 
-turn-put : (g : Got (List Num)) (t t₁ : List ℤ) (p : ℕ) (a : Put) → On (λ v. length v ≡ 6) g → Puts g (λ v. sets t p (plainly v)) t₁ a → a ≡ Done
-    → Puts (map_g nums (map_g (λ v. v ++ no_turn ∷ []) g)) (λ v. sets t p (numbers v)) (set t₁ (p + 6) (negsuc 0)) Done
+turn-put : (g : Got (List Num)) (t t₁ : List ℤ) (p : ℕ) (a : Result ⊤ ℕ) → On (λ v. length v ≡ 6) g → Puts g (λ v. sets t p (plainly v)) t₁ a → a ≡ (Ok tt)
+    → Puts (map_g nums (map_g (λ v. v ++ no_turn ∷ []) g)) (λ v. sets t p (numbers v)) (set t₁ (p + 6) (negsuc 0)) (Ok tt)
 turn-put (bad n) t t₁ p a l h d = done-not n (sym d ∙ h.eq)
 turn-put (got v) t t₁ p a l h d =
     let six : length (plainly v) ≡ 6 = map-long v ∙ l in
@@ -118,7 +117,7 @@ turn-put (got v) t t₁ p a l h d =
           ∙ sym (sets_more (plainly v) t p (negsuc 0)) ∙ ap (sets t p) (sym (plainly-more v));
     }
 
-module _ (k : Known) (row : Row) (c : List ℕ) (f : Forms) (e : f ≡ forms_for row (length (split 44 c))) (t t₁ : List ℤ) (p : ℕ) (a : Put)
+module _ (k : Known) (row : Row) (c : List ℕ) (f : Forms) (e : f ≡ forms_for row (length (split 44 c))) (t t₁ : List ℤ) (p : ℕ) (a : Result ⊤ ℕ)
     (h : Puts (read_all k (parts_in f) (split 44 c)) (λ v. sets t p (plainly v)) t₁ a) where
   is-judged : read_kind k (values_of row) 0 c ≡ judged f (read_all k (parts_in f) (split 44 c))
   is-judged = forms-read k row c ∙ ap (λ (f : Forms). judged f (read_all k (parts_in f) (split 44 c))) (sym e)
@@ -127,7 +126,7 @@ module _ (k : Known) (row : Row) (c : List ℕ) (f : Forms) (e : f ≡ forms_for
   all-long =
       subst (λ (n : ℕ). On (λ v. length v ≡ suc n) (read_all k (parts_in f) (split 44 c))) (parts-long f.more (f.parts / 100)) (long-all k (parts_in f) (split 44 c))
 
-  pub values-refused : (n : ℕ) → a ≡ Refused n → Puts (read_kind k (values_of row) 0 c) (λ v. sets t p (numbers v)) t₁ a
+  pub values-refused : (n : ℕ) → a ≡ Err n → Puts (read_kind k (values_of row) 0 c) (λ v. sets t p (numbers v)) t₁ a
   values-refused n z = rw is-judged (go (read_all k (parts_in f) (split 44 c)) h f.turnless)
     where
       go : (g : Got (List Num)) → Puts g (λ v. sets t p (plainly v)) t₁ a → (b : Bool)
@@ -136,13 +135,13 @@ module _ (k : Known) (row : Row) (c : List ℕ) (f : Forms) (e : f ≡ forms_for
       go (bad m) x true = record { eq = x.eq; filled = tt }
       go (bad m) x false = record { eq = x.eq; filled = tt }
 
-  pub values_turnless : f.turnless ≡ true → a ≡ Done → Puts (read_kind k (values_of row) 0 c) (λ v. sets t p (numbers v)) (set t₁ (p + 6) (negsuc 0)) Done
+  pub values_turnless : f.turnless ≡ true → a ≡ (Ok tt) → Puts (read_kind k (values_of row) 0 c) (λ v. sets t p (numbers v)) (set t₁ (p + 6) (negsuc 0)) (Ok tt)
   values_turnless z d =
       let six : suc f.more ≡ 6 = ap suc (six-values row f (length (split 44 c)) e z) in
       rw (is-judged, z) (turn-put (read_all k (parts_in f) (split 44 c)) t t₁ p a (subst (λ (n : ℕ). On (λ v. length v ≡ n) (read_all k (parts_in f) (split 44 c))) six all-long) h d)
 
-  pub values-told : (b : Bool) → f.turnless ≡ false → a ≡ Done → settled (values_of row) ≡ true → p + columns (values_of row) ≤ length t → agree_from (across_of f.across) p t₁ ≡ b
-      → Puts (read_kind k (values_of row) 0 c) (λ v. sets t p (numbers v)) t₁ (cond b Done (Refused 11))
+  pub values-told : (b : Bool) → f.turnless ≡ false → a ≡ (Ok tt) → settled (values_of row) ≡ true → p + columns (values_of row) ≤ length t → agree_from (across_of f.across) p t₁ ≡ b
+      → Puts (read_kind k (values_of row) 0 c) (λ v. sets t p (numbers v)) t₁ (cond b (Ok tt) (Err 11))
   values-told b z d s l x =
       let room = forms-room row f (length (split 44 c)) e p (length t) l in
       rw (is-judged, z)

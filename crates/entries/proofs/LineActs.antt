@@ -1,4 +1,5 @@
 -- A line with a key of a row: its numbers and state, and what it does.
+use Rattle.std.specs.Prelude.{Result, Ok, Err, ⊤}
 use Prim.Native.Nat.{ℕ, zero, suc, ◌+◌, ◌<◌, ◌≤◌}
 use mathlib.Core.Path.{◌≡◌, refl, ap, sym, ◌∙◌}
 use mathlib.Core.Bool.{Bool, true, false, cond, ◌&&◌, not}
@@ -24,8 +25,6 @@ use Rattle.entries.specs.Acts.{place_of, put_line, roomy, value_of, Acts, next_f
 use Rattle.entries.specs.declared.Shape.{Shape as Placed}
 use Rattle.entries.specs.declared.Shape.TheVariants as P
 use Rattle.entries.specs.declared.Next.TheVariants as N
-use Rattle.entries.specs.declared.Put.{Put}
-use Rattle.entries.specs.declared.Put.TheVariants.{Done, Refused}
 use Rattle.entries.proofs.EachValue.{done-not}
 use Rattle.entries.proofs.ByKind.{on-linked_in}
 
@@ -79,54 +78,54 @@ given-kind k (headed i p) at c = given-map (λ (n : Num). nums (n ∷ [])) (λ _
 given-kind k (either i) at c = given-map (λ (n : Num). nums (n ∷ [])) (λ _. refl) (read_part k (range 0 1) c)
 
 -- ── the numbers, then the state ──
-module _ (g : Got Value) (r : Rule) (dump : ℕ) (t t₁ : List ℤ) (a : Put) (h : Puts g (λ v. sets t (place_of r.place dump) (numbers v)) t₁ a) where
-  pub line-bad : (n : ℕ) → a ≡ Refused n → Puts g (λ v. put_line r dump v t) t₁ a
+module _ (g : Got Value) (r : Rule) (dump : ℕ) (t t₁ : List ℤ) (a : Result ⊤ ℕ) (h : Puts g (λ v. sets t (place_of r.place dump) (numbers v)) t₁ a) where
+  pub line-bad : (n : ℕ) → a ≡ Err n → Puts g (λ v. put_line r dump v t) t₁ a
   line-bad n e = go g h
     where
       go : (g : Got Value) → Puts g (λ v. sets t (place_of r.place dump) (numbers v)) t₁ a → Puts g (λ v. put_line r dump v t) t₁ a
       go (got v) h = done-not n (sym h.eq ∙ e)
       go (bad m) h = record { eq = h.eq; filled = tt }
 
-  pub line-done : (t₂ : List ℤ) → Given g → a ≡ Done → t₂ ≡ put_state r.state (pos 2) t₁ → Puts g (λ v. put_line r dump v t) t₂ Done
+  pub line-done : (t₂ : List ℤ) → Given g → a ≡ (Ok tt) → t₂ ≡ put_state r.state (pos 2) t₁ → Puts g (λ v. put_line r dump v t) t₂ (Ok tt)
   line-done t₂ s d e = go g h s
     where
-      go : (g : Got Value) → Puts g (λ v. sets t (place_of r.place dump) (numbers v)) t₁ a → Given g → Puts g (λ v. put_line r dump v t) t₂ Done
+      go : (g : Got Value) → Puts g (λ v. sets t (place_of r.place dump) (numbers v)) t₁ a → Given g → Puts g (λ v. put_line r dump v t) t₂ (Ok tt)
       go (got v) h s = record { eq = refl; filled = rw s (e ∙ ap (put_state r.state (pos 2)) h.filled) }
       go (bad m) h s = done-not m (sym d ∙ h.eq)
 
 -- ── by the shape ──
-shape-put : (f : Value → Act) → ((v : Value) → value_of (f v) ≡ v) → (g : Got Value) (r : Rule) (dump : ℕ) (t t₁ : List ℤ) (a : Put)
+shape-put : (f : Value → Act) → ((v : Value) → value_of (f v) ≡ v) → (g : Got Value) (r : Rule) (dump : ℕ) (t t₁ : List ℤ) (a : Result ⊤ ℕ)
     → Puts g (λ v. put_line r dump v t) t₁ a → Puts (map_g f g) (λ b. put_line r dump (value_of b) t) t₁ a
 shape-put f e (got v) r dump t t₁ a h = record { eq = h.eq; filled = rw (e v) h.filled }
 shape-put f e (bad n) r dump t t₁ a h = record { eq = h.eq; filled = tt }
 
 module _ (k : Known) (j : ℕ) (r : Rule) (dump : ℕ) (t t₁ : List ℤ) (s : List ℕ) where
   -- what a line of a shape puts
-  abbrev pub ShapePuts : Placed → Put → Type 0
+  abbrev pub ShapePuts : Placed → Result ⊤ ℕ → Type 0
   ShapePuts x a = Puts (read_shape k j r (shape_in s x)) (λ b. put_line r dump (value_of b) t) t₁ a
 
-  pub opener_puts : (x : Placed) → sort_of x ≡ 0 → t₁ ≡ put_state r.state (pos 2) t → ShapePuts x Done
+  pub opener_puts : (x : Placed) → sort_of x ≡ 0 → t₁ ≡ put_state r.state (pos 2) t → ShapePuts x (Ok tt)
   opener_puts P.Opener e f = record { eq = refl; filled = f }
   opener_puts P.NoContent e f = absurd (omega arith)
   opener_puts (P.Content p) e f = absurd (omega arith)
   opener_puts (P.Opening p) e f = absurd (omega arith)
   opener_puts P.Formless e f = absurd (omega arith)
 
-  pub empty_puts : (x : Placed) → sort_of x ≡ 1 → t₁ ≡ put_state r.state (pos 1) t → ShapePuts x Done
+  pub empty_puts : (x : Placed) → sort_of x ≡ 1 → t₁ ≡ put_state r.state (pos 1) t → ShapePuts x (Ok tt)
   empty_puts P.Opener e f = absurd (omega arith)
   empty_puts P.NoContent e f = record { eq = refl; filled = f }
   empty_puts (P.Content p) e f = absurd (omega arith)
   empty_puts (P.Opening p) e f = absurd (omega arith)
   empty_puts P.Formless e f = absurd (omega arith)
 
-  pub formless_puts : (x : Placed) → sort_of x ≡ 4 → ShapePuts x (Refused 5)
+  pub formless_puts : (x : Placed) → sort_of x ≡ 4 → ShapePuts x (Err 5)
   formless_puts P.Opener e = absurd (omega arith)
   formless_puts P.NoContent e = absurd (omega arith)
   formless_puts (P.Content p) e = absurd (omega arith)
   formless_puts (P.Opening p) e = absurd (omega arith)
   formless_puts P.Formless e = record { eq = refl; filled = tt }
 
-  pub content_puts : (x : Placed) (a : Put) → (sort_of x ≡ 4 → ⊥) → (sort_of x ≡ 0 → ⊥) → (sort_of x ≡ 1 → ⊥)
+  pub content_puts : (x : Placed) (a : Result ⊤ ℕ) → (sort_of x ≡ 4 → ⊥) → (sort_of x ≡ 0 → ⊥) → (sort_of x ≡ 1 → ⊥)
       → Puts (read_kind k r.holds (span_of x).at (bytes_at s (span_of x))) (λ v. put_line r dump v t) t₁ a → ShapePuts x a
   content_puts P.Opener a n₄ n₀ n₁ h = absurd (n₀ refl)
   content_puts P.NoContent a n₄ n₀ n₁ h = absurd (n₁ refl)
@@ -135,20 +134,20 @@ module _ (k : Known) (j : ℕ) (r : Rule) (dump : ℕ) (t t₁ : List ℤ) (s : 
   content_puts P.Formless a n₄ n₀ n₁ h = absurd (n₄ refl)
 
 -- ── what is done ──
-module _ (j : ℕ) (r : Rule) (dump : ℕ) (t t₁ : List ℤ) (a : Put) where
-  entry-put : (g : Got Value) (full : Bool) → Puts (map_g (entry j) g) (λ b. put_line r dump (value_of b) t) t₁ a → a ≡ Done
+module _ (j : ℕ) (r : Rule) (dump : ℕ) (t t₁ : List ℤ) (a : Result ⊤ ℕ) where
+  entry-put : (g : Got Value) (full : Bool) → Puts (map_g (entry j) g) (λ b. put_line r dump (value_of b) t) t₁ a → a ≡ (Ok tt)
       → Acts (λ _. r) dump t (or_refuse (and_then (map_g (entry j) g) λ b. unless (not full) 11 (got b))) t₁ (cond full (N.Refuse 11) (N.Entry j))
   entry-put (bad m) full h d = done-not m (sym d ∙ h.eq)
   entry-put (got v) true h d = record { eq = refl; entered = tt }
   entry-put (got v) false h d = record { eq = refl; entered = h.filled }
 
-  begin-put : (i : ℕ) (g : Got Value) (full : Bool) → Puts (map_g (begin i j) g) (λ b. put_line r dump (value_of b) t) t₁ a → a ≡ Done
+  begin-put : (i : ℕ) (g : Got Value) (full : Bool) → Puts (map_g (begin i j) g) (λ b. put_line r dump (value_of b) t) t₁ a → a ≡ (Ok tt)
       → Acts (λ _. r) dump t (or_refuse (and_then (map_g (begin i j) g) λ b. unless (not full) 11 (got b))) t₁ (cond full (N.Refuse 11) (N.Begin (record { block = i; row = j })))
   begin-put i (bad m) full h d = done-not m (sym d ∙ h.eq)
   begin-put i (got v) true h d = record { eq = refl; entered = tt }
   begin-put i (got v) false h d = record { eq = refl; entered = h.filled }
 
-  pub line-entered : (k : Known) (s : List ℕ) (x : Placed) (full : Bool) → Puts (read_shape k j r (shape_in s x)) (λ b. put_line r dump (value_of b) t) t₁ a → a ≡ Done
+  pub line-entered : (k : Known) (s : List ℕ) (x : Placed) (full : Bool) → Puts (read_shape k j r (shape_in s x)) (λ b. put_line r dump (value_of b) t) t₁ a → a ≡ (Ok tt)
       → Acts (λ _. r) dump t (or_refuse (and_then (read_shape k j r (shape_in s x)) λ b. unless (not full) 11 (got b))) t₁ (next_for full j (inner_of r.holds) (sort_of x))
   line-entered k s P.Opener full h d = begin-put (inner_of r.holds) (got (nums [])) full h d
   line-entered k s P.NoContent full h d = entry-put (got empty) full h d
@@ -156,11 +155,11 @@ module _ (j : ℕ) (r : Rule) (dump : ℕ) (t t₁ : List ℤ) (a : Put) where
   line-entered k s (P.Opening p) full h d = begin-put (inner_of r.holds) (read_kind k r.holds p.at (bytes_at s p)) full h d
   line-entered k s P.Formless full h d = done-not 5 (sym d ∙ h.eq)
 
-  pub line_refused : (g : Got Act) (f : Act → Got Act) (w : Act → List ℤ) (n : ℕ) → Puts g w t₁ a → a ≡ Refused n → Acts (λ _. r) dump t (or_refuse (and_then g f)) t₁ (N.Refuse n)
+  pub line_refused : (g : Got Act) (f : Act → Got Act) (w : Act → List ℤ) (n : ℕ) → Puts g w t₁ a → a ≡ Err n → Acts (λ _. r) dump t (or_refuse (and_then g f)) t₁ (N.Refuse n)
   line_refused (got b) f w n h e = done-not n (sym h.eq ∙ e)
   line_refused (bad m) f w n h e = let q : m ≡ n = refused m n (sym h.eq ∙ e) in rw q (record { eq = refl; entered = tt })
     where
-      refused : (m n : ℕ) → Refused m ≡ Refused n → m ≡ n
+      refused : (m n : ℕ) → Err m ≡ Err n → m ≡ n
       refused m n e = cc
 
 -- a row that may stand more than once

@@ -1,4 +1,5 @@
 -- Names by place, one after the other.
+use Rattle.std.specs.Prelude.{Some, None}
 use Prim.Native.Nat.{ℕ, zero, suc, ◌+◌, ◌-◌, ◌<◌, ◌≤◌}
 use mathlib.Core.Path.{◌≡◌, refl, sym, ◌∙◌}
 use mathlib.Core.Bool.{true, false}
@@ -11,7 +12,6 @@ use lib.Seq.{take_all}
 use Rattle.rules.specs.Base.{same}
 use Rattle.leaves.proofs.Scan.{at}
 use Rattle.entries.specs.Names.{name_in, names_in, index_from}
-use Rattle.entries.specs.declared.Index.TheVariants as I
 
 -- ── a part of the spool ──
 pub part_none : (s : List ℕ) (n from len : ℕ) → length s ≤ from → take n (drop (length s) s) ≡ take len (drop from s)
@@ -32,7 +32,7 @@ part-whole s from len = let e : from + len - from ≡ len = omega arith in rw e
 
 -- ── where a name stands ──
 module _ (s k : List ℕ) (ns : List ℕ) (i : ℕ) where
-  pub name_hit : i < length ns → same k (name_in s (get_or ns i 0)) ≡ true → index_from i k (names_in s (drop i ns)) ≡ I.At i
+  pub name_hit : i < length ns → same k (name_in s (get_or ns i 0)) ≡ true → index_from i k (names_in s (drop i ns)) ≡ Some i
   unfolding index_from
   name_hit h e = rw (at ns i h, e)
 
@@ -40,6 +40,6 @@ module _ (s k : List ℕ) (ns : List ℕ) (i : ℕ) where
   unfolding index_from
   name_miss h e = rw (at ns i h, e, add-one)
 
-  pub name-end : length ns ≤ i → index_from i k (names_in s (drop i ns)) ≡ I.None
+  pub name-end : length ns ≤ i → index_from i k (names_in s (drop i ns)) ≡ None
   unfolding index_from
   name-end h = rw (drop_of_length-le ns h)

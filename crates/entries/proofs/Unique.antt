@@ -1,5 +1,6 @@
 -- The public functions of this crate have one answer each (as `Unique` in leaves has it: FUNCTION-unique in the contract's own words,
 -- FUNCTION-code of the contract as the code has it), but for a shape's places beyond the spool, and for the lent numbers after a refusal.
+use Rattle.std.specs.Prelude.{Option}
 use Prim.Native.Nat.{ℕ, ◌+◌, ◌≤◌}
 use mathlib.Core.Bool.{Bool}
 use mathlib.Core.List.{List}
@@ -24,7 +25,6 @@ use Rattle.tables.specs.Tables.{table_of}
 use Rattle.entries.specs.Names.{name_in, names_in, index_from, known_in}
 use Rattle.entries.specs.Shapes.{key_of, rest_of, rest_in, shape_in, shape_by, sort_of}
 use Rattle.entries.specs.Acts.{next_of, Entered, Acts}
-use Rattle.entries.specs.declared.Index.{Index}
 use Rattle.entries.specs.declared.Next.{Next}
 use Rattle.entries.specs.declared.Next.TheVariants as N
 use Rattle.entries.specs.declared.Rest.{Rest}
@@ -55,7 +55,7 @@ name-at_unique s name r₁ r₂ c₁ c₂ = c₁ ∙ sym c₂
 name-at-code : One name-at'.Kinds.ps name-at'.Kinds.r name-at'.Reads.Learnt (λ κs r e. r.now)
 name-at-code κs x r₁ r₂ e₁ e₂ = name-at_unique x.0.now x.1.0 r₁.now r₂.now
 
-pub index_of_unique : (s names key : List ℕ) (r₁ r₂ : Index) → r₁ ≡ index_from 0 key (names_in s names) → r₂ ≡ index_from 0 key (names_in s names) → r₁ ≡ r₂
+pub index_of_unique : (s names key : List ℕ) (r₁ r₂ : Option ℕ) → r₁ ≡ index_from 0 key (names_in s names) → r₂ ≡ index_from 0 key (names_in s names) → r₁ ≡ r₂
 index_of_unique s names key r₁ r₂ c₁ c₂ = c₁ ∙ sym c₂
 
 index_of-code : One index-of'.Kinds.ps index-of'.Kinds.r index-of'.Reads.Learnt (λ κs r e. r)

@@ -1,9 +1,9 @@
 -- How many numbers a content has: as many as its row has places.
+use Rattle.std.specs.Prelude.{Option, Some, None}
 use Prim.Native.Nat.{ℕ, zero, suc}
 use mathlib.Core.Path.{◌≡◌, refl, ap, sym, ◌∙◌}
 use mathlib.Core.Bool.{Bool, true, false, ◌&&◌}
 use mathlib.Core.List.{List, [], ◌∷◌, ◌++◌, map}
-use mathlib.Core.Option.{Option, none, some}
 use native.Mathlib.Omega.{arith}
 use lib.Dec.{eqb, leb}
 use lib.IntN.{ℤ}
@@ -50,8 +50,8 @@ two-fill : (v : List Num) → Two v → Fills 2 (nums v)
 two-fill v h = nums-fill 2 v (ap length h)
 
 sheet-fill : (o : Option (List Num)) → OnSome o → On (Fills 2) (map_g nums (or_bad 11 o))
-sheet-fill none h = tt
-sheet-fill (some v) h = two-fill v h
+sheet-fill None h = tt
+sheet-fill (Some v) h = two-fill v h
 
 ratio-fill : (g : Got (List Num)) → On Two g → On (Fills 2) (map_g nums g)
 ratio-fill (got v) h = two-fill v h
@@ -100,7 +100,7 @@ kind-fills k (either i) at c = one-fill (read_part k (range 0 1) c)
 
 -- ── a line's numbers are its slot's ──
 -- a row with a place of its own
-pub line-slot : (r : Rule) (dump : ℕ) (v : Value) (t : List ℤ) → (r.place ≡ 0 → ⊥) → Fills (columns r.holds) v → put_line r dump v t ≡ put_slot r (some v) t
+pub line-slot : (r : Rule) (dump : ℕ) (v : Value) (t : List ℤ) → (r.place ≡ 0 → ⊥) → Fills (columns r.holds) v → put_line r dump v t ≡ put_slot r (Some v) t
 line-slot r dump v t h e = ap (put_state r.state (given v)) (go r.place h ∙ ap (λ (zs : List ℤ). put_numbers r.place zs t) (sym e))
   where
     go : (p : ℕ) → (p ≡ 0 → ⊥) → sets t (place_of p dump) (numbers v) ≡ put_numbers p (numbers v) t

@@ -1,44 +1,38 @@
 -- What is entered into the lent numbers, and what is answered about it.
-use Rattle.std.specs.Prelude.{ℕ, ◌+◌, min, ◌≡◌, Bool, true, ◌&&◌, not, List, [], ◌∷◌, map, eqb, leb, ℤ, pos, length, get_or, set}
+use Rattle.std.specs.Prelude.{ℕ, ◌+◌, min, ◌≡◌, Bool, true, ◌&&◌, not, List, [], ◌∷◌, map, eqb, leb, ℤ, pos, length, get_or, set, Option, Some, None, Result, Ok, Err, ⊤}
 use Rattle.std.specs.Int.Signed.{lt_z}
 use Rattle.rules.specs.RefusalNumbers.{Got, got, bad, map_g, cons_g}
 use Rattle.rules.specs.Base.{flat, among, split}
 use Rattle.rules.specs.Values.{Num, num, amount, Across, nothing_more, ends_differ, arc_of_circle, axes_of_ellipse, served_power, equal_z, powers, Kind, values, text, word}
 use Rattle.rules.specs.Values.{volume_name, sheet, ratio, serials, wire_serial, symbol_circle, nothing, opens, headed, either, read_serials, read_partner}
-use Rattle.leaves.specs.declared.Count.{Count}
-use Rattle.leaves.specs.declared.Count.TheVariants as C
-use Rattle.entries.specs.declared.Val.{Val}
-use Rattle.entries.specs.declared.Val.TheVariants as Vs
-use Rattle.entries.specs.declared.Put.{Put}
-use Rattle.entries.specs.declared.Put.TheVariants.{Done, Refused}
 
-abbrev pub put_of : {A : Type 0} → Got A → Put
-put_of (got a) = Done
-put_of (bad n) = Refused n
+abbrev pub put_of : {A : Type 0} → Got A → Result ⊤ ℕ
+put_of (got a) = Ok tt
+put_of (bad n) = Err n
 
 abbrev pub On : {A : Type 0} → (A → Type 0) → Got A → Type 0
 On P (got a) = P a
 On P (bad n) = Unit {0}
 
 -- the answer is that of g, and where g has a value the lent numbers are what it makes of them
-pub record Puts {A : Type 0} (g : Got A) (w : A → List ℤ) (t : List ℤ) (a : Put) : Type 0 where
+pub record Puts {A : Type 0} (g : Got A) (w : A → List ℤ) (t : List ℤ) (a : Result ⊤ ℕ) : Type 0 where
   pub eq : a ≡ put_of g
   pub filled : On (λ v. t ≡ w v) g
 
 -- ── one value ──
-abbrev pub done_of : Val → Put
-done_of (Vs.Is z) = Done
-done_of (Vs.Bad n) = Refused n
+abbrev pub done_of : Result ℤ ℕ → Result ⊤ ℕ
+done_of (Ok z) = Ok tt
+done_of (Err n) = Err n
 
-abbrev pub put_val : Val → ℕ → List ℤ → List ℤ
-put_val (Vs.Is z) p t = set t p z
-put_val (Vs.Bad n) p t = t
+abbrev pub put_val : Result ℤ ℕ → ℕ → List ℤ → List ℤ
+put_val (Ok z) p t = set t p z
+put_val (Err n) p t = t
 
 -- of two numbers on one line the smaller
-abbrev pub least_of : Put → Put → Put
-least_of Done r = r
-least_of (Refused m) Done = Refused m
-least_of (Refused m) (Refused n) = Refused (min m n)
+abbrev pub least_of : Result ⊤ ℕ → Result ⊤ ℕ → Result ⊤ ℕ
+least_of (Ok tt) r = r
+least_of (Err m) (Ok tt) = Err m
+least_of (Err m) (Err n) = Err (min m n)
 
 -- ── several ──
 abbrev pub plainly : List Num → List ℤ
@@ -93,11 +87,11 @@ settled (headed i p) = true
 settled (either i) = true
 
 -- how many serial numbers stand between commas, where all are such
-abbrev pub long_of : Got (List ℕ) → Count
-long_of (got ns) = C.Is (length ns)
-long_of (bad n) = C.Not
+abbrev pub long_of : Got (List ℕ) → Option ℕ
+long_of (got ns) = Some (length ns)
+long_of (bad n) = None
 
-unfoldable pub serials_in : List ℕ → Count
+unfoldable pub serials_in : List ℕ → Option ℕ
 serials_in c = long_of (read_serials (split 44 c))
 
 -- the two partners of a wire, behind its own number

@@ -17,7 +17,7 @@ use crate::{Next, Rest};
 use rules::{Digits, LineForm, Span};
 use tables::lookup::row_of;
 use tables::{
-    Found, TABLE_DEFINES, TABLE_DRAWING, TABLE_ELEMENT, TABLE_PLACED, TABLE_RANGE,
+    TABLE_DEFINES, TABLE_DRAWING, TABLE_ELEMENT, TABLE_PLACED, TABLE_RANGE,
     TABLE_SINGLE_WIRED_LAYER, TABLE_SYMBOL, TABLE_SYMBOL_POINTS, TABLE_TOP, TABLE_WIRE,
     TABLE_WIRED_LAYER,
 };
@@ -138,8 +138,8 @@ fn act_key(
     ensures { Acts (rule_at (table_of table)) dump rec.old (act_found (known_in s.now symbols.now layers.now) d full.now (rest_in s.now rest) (find (bytes_at s.now key) (table_of table))) rec.new result }
 {
     match row_of(table, part(s, key)) {
-        Found::Absent => unknown(s, rest),
-        Found::Row(row) => {
+        None => unknown(s, rest),
+        Some(row) => {
             let had = mark(full, row.number);
             act_row(row, s, symbols, layers, d, had, rest, dump, rec)
         }

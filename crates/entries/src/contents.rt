@@ -8,7 +8,6 @@ ghost use Rattle.tables.specs.Rows.{kind_of};
 ghost use Rattle.entries.specs.Names.{known_in};
 ghost use Rattle.entries.specs.Entering.{Puts, settled, serials_in};
 
-use crate::Put;
 use crate::parts::single;
 use crate::values::{put_value, values};
 use crate::wire_serials::put_wire_serial;
@@ -16,7 +15,6 @@ use leaves::bytes::{all_in, find};
 use leaves::numbers::serial;
 use leaves::sheets::{ratio, sheet};
 use leaves::texts::fits;
-use leaves::{Count, Ratio, Sheet};
 use tables::{
     HOLDS_BLOCK, HOLDS_EITHER, HOLDS_HEADED, HOLDS_NOTHING, HOLDS_RATIO, HOLDS_SERIALS,
     HOLDS_SHEET, HOLDS_TEXT, HOLDS_VOLUME_NAME, HOLDS_WIRE_SERIAL, HOLDS_WORD, PART_RANGE_0_1, Row,
@@ -32,55 +30,55 @@ pub(crate) fn put_two(a: u64, b: u64, p: usize, rec: &mut [i64])
 }
 
 // A text: its place and length.
-fn chars(most: u8, set: u8, at: u32, c: &[u8], p: usize, rec: &mut [i64]) -> Put
+fn chars(most: u8, set: u8, at: u32, c: &[u8], p: usize, rec: &mut [i64]) -> Result<(), u8>
     requires { (length c.now ≤ 61440) × (p + 2 ≤ length rec.old) }
     ensures { Puts (read_text most (bytes_of set) at c.now) (λ v. sets rec.old p (numbers v)) rec.new result }
 {
     if !fits(c, most, set) {
-        return Put::Refused(11);
+        return Err(11);
     }
     put_two(at as u64, c.len() as u64, p, rec);
-    Put::Done
+    Ok(())
 }
 
 // The name of the next volume.
-fn volume_name(at: u32, c: &[u8], p: usize, rec: &mut [i64]) -> Put
+fn volume_name(at: u32, c: &[u8], p: usize, rec: &mut [i64]) -> Result<(), u8>
     requires { (length c.now ≤ 61440) × (p + 2 ≤ length rec.old) }
     ensures { Puts (read_kind (known_in [] [] []) volume_name at c.now) (λ v. sets rec.old p (numbers v)) rec.new result }
 {
     if !all_in(c, 2) {
-        return Put::Refused(11);
+        return Err(11);
     }
     put_two(at as u64, c.len() as u64, p, rec);
-    Put::Done
+    Ok(())
 }
 
-fn put_sheet(c: &[u8], p: usize, rec: &mut [i64]) -> Put
+fn put_sheet(c: &[u8], p: usize, rec: &mut [i64]) -> Result<(), u8>
     requires { p + 2 ≤ length rec.old }
     ensures { Puts (read_kind (known_in [] [] []) sheet 0 c.now) (λ v. sets rec.old p (numbers v)) rec.new result }
 {
-    let Sheet::Is(z) = sheet(c) else {
-        return Put::Refused(11);
+    let Some(z) = sheet(c) else {
+        return Err(11);
     };
     put_two(z.multiplier as u64, z.number as u64, p, rec);
-    Put::Done
+    Ok(())
 }
 
-fn put_ratio(c: &[u8], p: usize, rec: &mut [i64]) -> Put
+fn put_ratio(c: &[u8], p: usize, rec: &mut [i64]) -> Result<(), u8>
     requires { p + 2 ≤ length rec.old }
     ensures { Puts (read_kind (known_in [] [] []) ratio 0 c.now) (λ v. sets rec.old p (numbers v)) rec.new result }
 {
     match ratio(c) {
-        Ratio::Is(z) => {
+        Ok(z) => {
             put_two(z.p as u64, z.q as u64, p, rec);
-            Put::Done
+            Ok(())
         }
-        Ratio::Refused(n) => Put::Refused(n),
+        Err(n) => Err(n),
     }
 }
 
 // How many serial numbers there are, where all between commas are such.
-fn serial_count(c: &[u8]) -> Count
+fn serial_count(c: &[u8]) -> Option<u64>
     requires { length c.now ≤ 61440 }
     ensures { result ≡ serials_in c.now }
 {
@@ -88,36 +86,36 @@ fn serial_count(c: &[u8]) -> Count
     let mut n = 0;
     let mut e = find(c, b',');
     while e < c.len() {
-        let Count::Is(_) = serial(&c[i..e]) else {
-            return Count::Not;
+        let Some(_) = serial(&c[i..e]) else {
+            return None;
         };
         n += 1;
         i = e + 1;
         e = i + find(&c[i..], b',');
     }
-    let Count::Is(_) = serial(&c[i..]) else {
-        return Count::Not;
+    let Some(_) = serial(&c[i..]) else {
+        return None;
     };
-    Count::Is(n + 1)
+    Some(n + 1)
 }
 
 // The own serial number and how many partners there are, at most 100.
-fn put_serials(c: &[u8], p: usize, rec: &mut [i64]) -> Put
+fn put_serials(c: &[u8], p: usize, rec: &mut [i64]) -> Result<(), u8>
     requires { (length c.now ≤ 61440) × (p + 2 ≤ length rec.old) }
     ensures { Puts (read_kind (known_in [] [] []) serials 0 c.now) (λ v. sets rec.old p (numbers v)) rec.new result }
 {
-    let Count::Is(n) = serial_count(c) else {
-        return Put::Refused(10);
+    let Some(n) = serial_count(c) else {
+        return Err(10);
     };
     if 101 < n {
-        return Put::Refused(11);
+        return Err(11);
     }
     let e = find(c, b',');
-    let Count::Is(v) = serial(&c[..e]) else {
-        return Put::Refused(10);
+    let Some(v) = serial(&c[..e]) else {
+        return Err(10);
     };
     put_two(v, n - 1, p, rec);
-    Put::Done
+    Ok(())
 }
 
 // A content that is not empty, by its row; its numbers go to the places from p on.
@@ -130,7 +128,7 @@ pub(crate) fn read_kind(
     c: &[u8],
     p: usize,
     rec: &mut [i64],
-) -> Put
+) -> Result<(), u8>
     requires { (length symbols.now ≤ 65536) × (length layers.now ≤ 65536) × (length c.now ≤ 61440) × (p + columns (kind_of row) ≤ length rec.old) × (settled (kind_of row) ≡ true) }
     ensures { Puts (read_kind (known_in s.now symbols.now layers.now) (kind_of row) at c.now) (λ v. sets rec.old p (numbers v)) rec.new result }
 {
@@ -153,10 +151,10 @@ pub(crate) fn read_kind(
         return put_serials(c, p, rec);
     }
     if row.kind == HOLDS_NOTHING {
-        return Put::Refused(5);
+        return Err(5);
     }
     if row.kind == HOLDS_BLOCK {
-        return Put::Refused(5);
+        return Err(5);
     }
     if row.kind == HOLDS_HEADED {
         return put_value(single(row.parts, s, symbols, layers, c), p, rec);

@@ -16,17 +16,10 @@ mod wire_serials;
 
 use rules::Span;
 
-// One value between commas, or its refusal.
-#[derive(Clone, Copy)]
-pub(crate) enum Val {
-    Is(i64),
-    Bad(u8),
-}
-
 // A value, and where its piece ends.
 #[derive(Clone, Copy)]
 pub(crate) struct Piece {
-    val: Val,
+    val: Result<i64, u8>,
     end: usize,
 }
 
@@ -38,20 +31,6 @@ pub(crate) struct Forms {
     more: u8,
     across: u8,
     turnless: bool,
-}
-
-// The number of a name among others, from 0.
-#[derive(Clone, Copy)]
-pub enum Index {
-    At(u32),
-    None,
-}
-
-// What a line holds was put into the lent numbers, or refused.
-#[derive(Clone, Copy)]
-pub(crate) enum Put {
-    Done,
-    Refused(u8),
 }
 
 // What follows a key: `:{`, or `=` and the rest of the line.

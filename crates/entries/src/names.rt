@@ -3,7 +3,6 @@ ghost use Rattle.std.specs.Prelude.{◌≡◌, ◌≤◌, length};
 ghost use Rattle.rules.specs.Lines.{bytes_at};
 ghost use Rattle.entries.specs.Names.{name_in, names_in, index_from};
 
-use crate::Index;
 use leaves::bytes::same;
 use rules::Span;
 
@@ -38,16 +37,16 @@ pub fn name_at(s: &[u8], name: u32) -> &[u8]
 }
 
 // Where a name stands among others.
-pub fn index_of(s: &[u8], names: &[u32], key: &[u8]) -> Index
+pub fn index_of(s: &[u8], names: &[u32], key: &[u8]) -> Option<u32>
     requires { length names.now ≤ 65536 }
     ensures { result ≡ index_from 0 key.now (names_in s.now names.now) }
 {
     let mut i = 0;
     while i < names.len() {
         if same(key, name_at(s, names[i])) {
-            return Index::At(i as u32);
+            return Some(i as u32);
         }
         i += 1;
     }
-    Index::None
+    None
 }

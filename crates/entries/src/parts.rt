@@ -7,12 +7,12 @@ ghost use Rattle.tables.specs.Rows.{bound_of, whole_of, part_of};
 ghost use Rattle.entries.specs.Names.{known_in};
 ghost use Rattle.entries.specs.Parts.{val_of, count_val, reading_val, decimal_val, index_val, PieceIs};
 
+use crate::Piece;
 use crate::names::index_of;
-use crate::{Index, Piece, Val};
+use leaves::Decimal;
 use leaves::bytes::{find, is_layer_id, within};
 use leaves::numbers::{clock, count, day, decimal, fixed};
 use leaves::pieces::decimal_piece;
-use leaves::{Count, Reading};
 use tables::{
     PART_ABOVE_ZERO, PART_ANY_SIGN, PART_CLOCK, PART_COUNT, PART_DAY, PART_DIGIT, PART_FLAG,
     PART_HALF_TURN, PART_LAYER_ID, PART_NO_ANGLE, PART_NOT_NEGATIVE, PART_POSITION, PART_RANGE_0,
@@ -33,33 +33,33 @@ const HALF_TURN: i64 = 1800000;
 const FULL_TURN: i64 = 3600000;
 
 // A number within limits; beyond them it has a refusal of its own.
-fn limited(n: Count, lo: u64, hi: u64, otherwise: u8) -> Val
+fn limited(n: Option<u64>, lo: u64, hi: u64, otherwise: u8) -> Result<i64, u8>
     requires { hi < 100000000000 }
     ensures { result ≡ count_val (in_range lo hi) otherwise n }
 {
-    let Count::Is(v) = n else {
-        return Val::Bad(10);
+    let Some(v) = n else {
+        return Err(10);
     };
     if within(lo, hi, v) {
-        return Val::Is(v as i64);
+        return Ok(v as i64);
     }
-    Val::Bad(otherwise)
+    Err(otherwise)
 }
 
 // E_sym: 000 to 005 or 011 to 015.
-fn served(n: Count) -> Val
+fn served(n: Option<u64>) -> Result<i64, u8>
     ensures { result ≡ count_val served_symbols 12 n }
 {
-    let Count::Is(v) = n else {
-        return Val::Bad(10);
+    let Some(v) = n else {
+        return Err(10);
     };
     if within(0, 5, v) {
-        return Val::Is(v as i64);
+        return Ok(v as i64);
     }
     if within(11, 15, v) {
-        return Val::Is(v as i64);
+        return Ok(v as i64);
     }
-    Val::Bad(12)
+    Err(12)
 }
 
 // E_wire: 000, or each digit within its limits.
@@ -78,16 +78,16 @@ fn is_wire_range(n: u64) -> bool
     within(1, MOST_WIRE_LAST, n % 10)
 }
 
-fn served_wires(n: Count) -> Val
+fn served_wires(n: Option<u64>) -> Result<i64, u8>
     ensures { result ≡ count_val served_wires 12 n }
 {
-    let Count::Is(v) = n else {
-        return Val::Bad(10);
+    let Some(v) = n else {
+        return Err(10);
     };
     if is_wire_range(v) {
-        return Val::Is(v as i64);
+        return Ok(v as i64);
     }
-    Val::Bad(12)
+    Err(12)
 }
 
 // An angle from 0 on.
@@ -119,17 +119,17 @@ fn in_bound(bound: u64, z: i64) -> bool
     turned(z, FULL_TURN)
 }
 
-fn bounded(bound: u64, r: Reading) -> Val
+fn bounded(bound: u64, r: Option<Decimal>) -> Result<i64, u8>
     ensures { result ≡ reading_val (in_bound (bound_of bound)) 11 r }
 {
-    let Reading::Is(d) = r else {
-        return Val::Bad(10);
+    let Some(d) = r else {
+        return Err(10);
     };
     let z = d.value;
     if in_bound(bound, z) {
-        return Val::Is(z);
+        return Ok(z);
     }
-    Val::Bad(11)
+    Err(11)
 }
 
 pub(crate) fn equal(a: i64, b: i64) -> bool
@@ -142,21 +142,21 @@ pub(crate) fn equal(a: i64, b: i64) -> bool
 }
 
 // A decimal of one value alone: any other is 10.
-fn exactly(n: i64, r: Reading) -> Val
+fn exactly(n: i64, r: Option<Decimal>) -> Result<i64, u8>
     ensures { result ≡ reading_val (equal_z n) 10 r }
 {
-    let Reading::Is(d) = r else {
-        return Val::Bad(10);
+    let Some(d) = r else {
+        return Err(10);
     };
     let z = d.value;
     if equal(n, z) {
-        return Val::Is(z);
+        return Ok(z);
     }
-    Val::Bad(10)
+    Err(10)
 }
 
 // A decimal by its form.
-fn measured(code: u64, r: Reading) -> Val
+fn measured(code: u64, r: Option<Decimal>) -> Result<i64, u8>
     ensures { result ≡ decimal_val code r }
 {
     if code < PART_NO_ANGLE {
@@ -171,27 +171,27 @@ fn measured(code: u64, r: Reading) -> Val
     bounded(code, r)
 }
 
-fn numbered(i: Index, otherwise: u8) -> Val
+fn numbered(i: Option<u32>, otherwise: u8) -> Result<i64, u8>
     ensures { result ≡ index_val otherwise i }
 {
     match i {
-        Index::At(n) => Val::Is(n as i64),
-        Index::None => Val::Bad(otherwise),
+        Some(n) => Ok(n as i64),
+        None => Err(otherwise),
     }
 }
 
-fn layer(s: &[u8], layers: &[u32], c: &[u8]) -> Val
+fn layer(s: &[u8], layers: &[u32], c: &[u8]) -> Result<i64, u8>
     requires { length layers.now ≤ 65536 }
     ensures { result ≡ val_of (read_part (known_in s.now [] layers.now) layer_id c.now) }
 {
     if !is_layer_id(c) {
-        return Val::Bad(11);
+        return Err(11);
     }
     numbered(index_of(s, layers, c), 14)
 }
 
 // A value that is no decimal, from all its bytes.
-fn whole(code: u64, s: &[u8], symbols: &[u32], layers: &[u32], c: &[u8]) -> Val
+fn whole(code: u64, s: &[u8], symbols: &[u32], layers: &[u32], c: &[u8]) -> Result<i64, u8>
     requires { (length symbols.now ≤ 65536) × (length layers.now ≤ 65536) }
     ensures { result ≡ val_of (read_part (known_in s.now symbols.now layers.now) (whole_of code) c.now) }
 {
@@ -244,7 +244,13 @@ fn whole(code: u64, s: &[u8], symbols: &[u32], layers: &[u32], c: &[u8]) -> Val
 }
 
 // A value from all its bytes.
-pub(crate) fn single(code: u64, s: &[u8], symbols: &[u32], layers: &[u32], c: &[u8]) -> Val
+pub(crate) fn single(
+    code: u64,
+    s: &[u8],
+    symbols: &[u32],
+    layers: &[u32],
+    c: &[u8],
+) -> Result<i64, u8>
     requires { (length symbols.now ≤ 65536) × (length layers.now ≤ 65536) }
     ensures { result ≡ val_of (read_part (known_in s.now symbols.now layers.now) (part_of code) c.now) }
 {

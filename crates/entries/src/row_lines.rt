@@ -14,9 +14,7 @@ ghost use Rattle.entries.specs.Acts.{place_of, put_line, roomy, value_of, Acts, 
 use crate::contents::read_kind;
 use crate::names::part;
 use crate::shapes::{fits, inner_of, is_free, shape_for, sort_of, span_of};
-use crate::{
-    Inner, Next, Put, Rest, SORT_FORMLESS, SORT_NO_CONTENT, SORT_OPENER, SORT_OPENING, Shape,
-};
+use crate::{Inner, Next, Rest, SORT_FORMLESS, SORT_NO_CONTENT, SORT_OPENER, SORT_OPENING, Shape};
 use rules::{Digits, Span};
 use tables::Row;
 
@@ -48,7 +46,7 @@ fn put_content(
     p: Span,
     dump: usize,
     rec: &mut [i64],
-) -> Put
+) -> Result<(), u8>
     requires { (length s.now ≤ 61440) × (length symbols.now ≤ 65536) × (length layers.now ≤ 65536) × (roomy dump (length rec.old) (rule_of row) ≡ true) }
     ensures { Puts (read_kind (known_in s.now symbols.now layers.now) (kind_of row) p.at (bytes_at s.now p)) (λ v. put_line (rule_of row) dump v rec.old) rec.new result }
 {
@@ -62,11 +60,11 @@ fn put_content(
         place_of(row.place, dump),
         rec,
     );
-    let Put::Done = a else {
+    let Ok(()) = a else {
         return a;
     };
     put_state(row.state, 2, rec);
-    Put::Done
+    Ok(())
 }
 
 // A line that has the form its row asks for. Content is entered by one call, whether it opens a block or not, so that the compiler can
@@ -79,21 +77,21 @@ fn put_shape(
     shape: Shape,
     dump: usize,
     rec: &mut [i64],
-) -> Put
+) -> Result<(), u8>
     requires { (length s.now ≤ 61440) × (length symbols.now ≤ 65536) × (length layers.now ≤ 65536) × (roomy dump (length rec.old) (rule_of row) ≡ true) }
     ensures { Puts (read_shape (known_in s.now symbols.now layers.now) row.number (rule_of row) (shape_in s.now shape)) (λ a. put_line (rule_of row) dump (value_of a) rec.old) rec.new result }
 {
     let sort = sort_of(shape);
     if sort == SORT_FORMLESS {
-        return Put::Refused(5);
+        return Err(5);
     }
     if sort == SORT_OPENER {
         put_state(row.state, 2, rec);
-        return Put::Done;
+        return Ok(());
     }
     if sort == SORT_NO_CONTENT {
         put_state(row.state, 1, rec);
-        return Put::Done;
+        return Ok(());
     }
     put_content(row, s, symbols, layers, span_of(shape), dump, rec)
 }
@@ -165,8 +163,8 @@ fn act_shape(
         return Next::Refuse(7);
     }
     match put_shape(row, s, symbols, layers, shape, dump, rec) {
-        Put::Refused(n) => Next::Refuse(n),
-        Put::Done => entered(row, full, sort),
+        Err(n) => Next::Refuse(n),
+        Ok(()) => entered(row, full, sort),
     }
 }
 

@@ -12,31 +12,30 @@ ghost use Rattle.entries.specs.Entering.{Puts, done_of, put_val, least_of, plain
 use crate::by_forms::forms_for;
 use crate::parts::{equal, piece};
 use crate::powers::{amount_at, served_power};
-use crate::{Put, Val};
 use tables::{ACROSS_ARC, ACROSS_AXES, ACROSS_ENDS, ACROSS_POWER, Row};
 
 // A value to its place, where it is one.
-pub(crate) fn put_value(v: Val, p: usize, rec: &mut [i64]) -> Put
+pub(crate) fn put_value(v: Result<i64, u8>, p: usize, rec: &mut [i64]) -> Result<(), u8>
     requires { p < length rec.old }
     ensures { (result ≡ done_of v) × (rec.new ≡ put_val v p rec.old) }
 {
     match v {
-        Val::Is(z) => {
+        Ok(z) => {
             rec[p] = z;
-            Put::Done
+            Ok(())
         }
-        Val::Bad(m) => Put::Refused(m),
+        Err(m) => Err(m),
     }
 }
 
 // The smaller of two numbers on one line.
-fn least(a: Put, b: Put) -> Put
+fn least(a: Result<(), u8>, b: Result<(), u8>) -> Result<(), u8>
     ensures { result ≡ least_of a b }
 {
-    let Put::Refused(m) = a else {
+    let Err(m) = a else {
         return b;
     };
-    let Put::Refused(n) = b else {
+    let Err(n) = b else {
         return a;
     };
     if n < m {
@@ -56,7 +55,7 @@ fn each(
     c: &[u8],
     p: usize,
     rec: &mut [i64],
-) -> Put
+) -> Result<(), u8>
     requires { (length symbols.now ≤ 65536) × (length layers.now ≤ 65536) × (p + more < length rec.old) }
     ensures { Puts (read_all (known_in s.now symbols.now layers.now) (part_of (parts % 100) ∷ parts_of more (parts / 100)) (split 44 c.now)) (λ v. sets rec.old p (plainly v)) rec.new result }
 {
@@ -64,19 +63,19 @@ fn each(
     let mut left = more;
     let mut to = p;
     let mut at = 0;
-    let mut worst = Put::Done;
+    let mut worst = Ok(());
     loop {
         let a = piece(codes % 100, s, symbols, layers, &c[at..]);
         let v = a.val;
         let e = at + a.end;
         if c.len() <= e {
             if left != 0 {
-                return least(worst, Put::Refused(10));
+                return least(worst, Err(10));
             }
             return least(worst, put_value(v, to, rec));
         }
         if left == 0 {
-            return least(worst, Put::Refused(10));
+            return least(worst, Err(10));
         }
         let first = put_value(v, to, rec);
         worst = least(worst, first);
@@ -145,21 +144,21 @@ pub(crate) fn values(
     c: &[u8],
     p: usize,
     rec: &mut [i64],
-) -> Put
+) -> Result<(), u8>
     requires { (length symbols.now ≤ 65536) × (length layers.now ≤ 65536) × (length c.now ≤ 61440) × (p + columns (values_of row) ≤ length rec.old) × (settled (values_of row) ≡ true) }
     ensures { Puts (read_kind (known_in s.now symbols.now layers.now) (values_of row) 0 c.now) (λ v. sets rec.old p (numbers v)) rec.new result }
 {
     let f = forms_for(row, c);
     let a = each(f.parts, f.more, s, symbols, layers, c, p, rec);
-    let Put::Done = a else {
+    let Ok(()) = a else {
         return a;
     };
     if f.turnless {
         rec[p + TURN] = NO_TURN;
-        return Put::Done;
+        return Ok(());
     }
     if agree(f.across, rec, p) {
-        return Put::Done;
+        return Ok(());
     }
-    Put::Refused(11)
+    Err(11)
 }

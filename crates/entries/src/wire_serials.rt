@@ -7,9 +7,7 @@ ghost use Rattle.rules.specs.RecordTable.{numbers};
 ghost use Rattle.entries.specs.Names.{known_in};
 ghost use Rattle.entries.specs.Entering.{Puts, plainly, read_ends};
 
-use crate::Put;
 use crate::contents::put_two;
-use leaves::Count;
 use leaves::bytes::find;
 use leaves::numbers::serial;
 
@@ -19,37 +17,37 @@ const PARTNER_EMPTY: u64 = 1;
 const PARTNER_GIVEN: u64 = 2;
 
 // A partner, which may be empty: its state and its number.
-fn put_partner(c: &[u8], p: usize, rec: &mut [i64]) -> Put
+fn put_partner(c: &[u8], p: usize, rec: &mut [i64]) -> Result<(), u8>
     requires { p + 2 ≤ length rec.old }
     ensures { Puts (read_partner c.now) (λ v. sets rec.old p (plainly v)) rec.new result }
 {
     if c.len() == 0 {
         put_two(PARTNER_EMPTY, 0, p, rec);
-        return Put::Done;
+        return Ok(());
     }
-    let Count::Is(v) = serial(c) else {
-        return Put::Refused(10);
+    let Some(v) = serial(c) else {
+        return Err(10);
     };
     put_two(PARTNER_GIVEN, v, p, rec);
-    Put::Done
+    Ok(())
 }
 
 // Both partners, of which the last is all that stands behind the first one's comma.
-fn put_both(first: &[u8], last: &[u8], p: usize, rec: &mut [i64]) -> Put
+fn put_both(first: &[u8], last: &[u8], p: usize, rec: &mut [i64]) -> Result<(), u8>
     requires { p + 4 ≤ length rec.old }
     ensures { Puts (read_ends (first.now ∷ split 44 last.now)) (λ v. sets rec.old p (plainly v)) rec.new result }
 {
     if find(last, b',') < last.len() {
-        return Put::Refused(10);
+        return Err(10);
     }
-    let Put::Done = put_partner(first, p, rec) else {
-        return Put::Refused(10);
+    let Ok(()) = put_partner(first, p, rec) else {
+        return Err(10);
     };
     put_partner(last, p + 2, rec)
 }
 
 // Both partners: exactly two items.
-fn put_ends(c: &[u8], p: usize, rec: &mut [i64]) -> Put
+fn put_ends(c: &[u8], p: usize, rec: &mut [i64]) -> Result<(), u8>
     requires { p + 4 ≤ length rec.old }
     ensures { Puts (read_ends (split 44 c.now)) (λ v. sets rec.old p (plainly v)) rec.new result }
 {
@@ -57,20 +55,20 @@ fn put_ends(c: &[u8], p: usize, rec: &mut [i64]) -> Put
     if e < c.len() {
         return put_both(&c[..e], &c[e + 1..], p, rec);
     }
-    Put::Refused(10)
+    Err(10)
 }
 
 // The own number and both partners: exactly three items. Whatever is wrong is 10.
-pub(crate) fn put_wire_serial(c: &[u8], p: usize, rec: &mut [i64]) -> Put
+pub(crate) fn put_wire_serial(c: &[u8], p: usize, rec: &mut [i64]) -> Result<(), u8>
     requires { p + 5 ≤ length rec.old }
     ensures { Puts (read_kind (known_in [] [] []) wire_serial 0 c.now) (λ v. sets rec.old p (numbers v)) rec.new result }
 {
     let e = find(c, b',');
     if c.len() <= e {
-        return Put::Refused(10);
+        return Err(10);
     }
-    let Count::Is(v) = serial(&c[..e]) else {
-        return Put::Refused(10);
+    let Some(v) = serial(&c[..e]) else {
+        return Err(10);
     };
     rec[p] = v as i64;
     put_ends(&c[e + 1..], p + 1, rec)

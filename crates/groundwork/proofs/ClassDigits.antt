@@ -1,4 +1,5 @@
 -- Classes by their two parts, and these by their digits.
+use Rattle.std.specs.Prelude.{Some, None}
 use Prim.Native.Nat.{ℕ, ◌/◌, ◌%◌, ◌≤◌}
 use mathlib.Core.Bool.{Bool, true, false, ◌&&◌, ◌||◌}
 use mathlib.Core.Path.{◌≡◌, refl, sym, ◌∙◌, ap, ap₂}
@@ -10,7 +11,6 @@ use Rattle.rules.specs.Base.{within}
 use Rattle.rules.specs.RangeClass.{digits, digits_of, is_symbol_part, is_wire_part, class_of}
 use Rattle.rules.proofs.Chains.{and_left, and_right}
 use Rattle.account.specs.Classes.{class_in}
-use Rattle.account.specs.declared.MaybeClass.TheVariants as C
 
 within-is : (lo hi n : ℕ) → within lo hi n ≡ true → (lo ≤ n) × (n ≤ hi)
 within-is lo hi n h = (leb-true lo n (and_left (leb lo n) (leb n hi) h), leb-true n hi (and_right (leb lo n) (leb n hi) h))
@@ -42,15 +42,15 @@ part-digits-are n few =
     let m : n / 10 ≡ n / 10 % 10 = omega (arith, few) in
     ap (λ (a : ℕ). digits a (n % 10)) m
 
-pub no-symbol-part : (n w : ℕ) → is_symbol_part n ≡ false → C.Not ≡ class_in (class_of n w)
+pub no-symbol-part : (n w : ℕ) → is_symbol_part n ≡ false → None ≡ class_in (class_of n w)
 unfolding class_of
 no-symbol-part n w f = rw f
 
-pub no-wire-part : (n w : ℕ) → is_symbol_part n ≡ true → is_wire_part w ≡ false → C.Not ≡ class_in (class_of n w)
+pub no-wire-part : (n w : ℕ) → is_symbol_part n ≡ true → is_wire_part w ≡ false → None ≡ class_in (class_of n w)
 unfolding class_of
 no-wire-part n w t f = rw (t, f)
 
 pub both-parts : (n w : ℕ) (a b : Digits) → is_symbol_part n ≡ true → is_wire_part w ≡ true → a ≡ digits_of n → b ≡ digits_of w
-    → C.Is (record { symbols = a; wires = b }) ≡ class_in (class_of n w)
+    → Some (record { symbols = a; wires = b }) ≡ class_in (class_of n w)
 unfolding class_of
-both-parts n w a b t u e f = rw (t, u) (ap₂ (λ (x y : Digits). C.Is (record { symbols = x; wires = y })) e f)
+both-parts n w a b t u e f = rw (t, u) (ap₂ (λ (x y : Digits). Some (record { symbols = x; wires = y })) e f)

@@ -1,8 +1,8 @@
 -- Partners: the pieces of a content one after the other, the contents of all numbers that are kept, and what is asked at the end of a set.
+use Rattle.std.specs.Prelude.{Option, Some, None}
 use Prim.Native.Nat.{ℕ, suc, ◌+◌, ◌-◌, ◌<◌, ◌≤◌}
 use mathlib.Core.Bool.{Bool, true, false, cond, ◌&&◌, not}
 use mathlib.Core.List.{List, [], ◌∷◌, ◌++◌, map}
-use mathlib.Core.Option.{Option, none, some}
 use mathlib.Core.Path.{◌≡◌, refl, sym, ◌∙◌, ap, subst}
 use native.Mathlib.Omega.{arith}
 use lib.Dec.{eqb, leb}
@@ -16,8 +16,6 @@ use Rattle.rules.specs.Lines.{span, bytes_at}
 use Rattle.rules.specs.Numbers.{read_count}
 use Rattle.rules.proofs.Chains.{all_append}
 use Rattle.leaves.specs.Bytes.{up_to, past}
-use Rattle.leaves.specs.Readings.{count_of}
-use Rattle.leaves.specs.declared.Count.TheVariants as C
 use Rattle.leaves.proofs.Cuts.{up_to-take, up_to-le, past-drop, up_to-none, split-last, split-more}
 use Rattle.leaves.proofs.Scan.{at, rest_all}
 use Rattle.entries.specs.declared.Rest.{Rest as Behind}
@@ -45,23 +43,23 @@ content-within s p d q = omega (arith, ap (λ (u : List ℕ). length u) q, lengt
 
 -- ── one piece ──
 module _ (p : ℕ → Bool) (o : Option ℕ) where
-  pub piece_is : (n : ℕ) → C.Is n ≡ count_of o → all p (number_in o) ≡ p n
+  pub piece_is : (n : ℕ) → Some n ≡ o → all p (number_in o) ≡ p n
   piece_is n e = go o e
     where
       and-all : (b : Bool) → (b && true) ≡ b
       and-all true = refl
       and-all false = refl
 
-      go : (o : Option ℕ) → C.Is n ≡ count_of o → all p (number_in o) ≡ p n
-      go none e = absurd (let q : ◌≡◌ {A = ℕ} 0 1 = cc in omega arith)
-      go (some m) e = let q : n ≡ m = cc in and-all (p m) ∙ ap p (sym q)
+      go : (o : Option ℕ) → Some n ≡ o → all p (number_in o) ≡ p n
+      go None e = absurd (let q : ◌≡◌ {A = ℕ} 0 1 = cc in omega arith)
+      go (Some m) e = let q : n ≡ m = cc in and-all (p m) ∙ ap p (sym q)
 
-  pub piece-not : C.Not ≡ count_of o → all p (number_in o) ≡ true
+  pub piece-not : None ≡ o → all p (number_in o) ≡ true
   piece-not e = go o e
     where
-      go : (o : Option ℕ) → C.Not ≡ count_of o → all p (number_in o) ≡ true
-      go none e = refl
-      go (some m) e = absurd (let q : ◌≡◌ {A = ℕ} 0 1 = cc in omega arith)
+      go : (o : Option ℕ) → None ≡ o → all p (number_in o) ≡ true
+      go None e = refl
+      go (Some m) e = absurd (let q : ◌≡◌ {A = ℕ} 0 1 = cc in omega arith)
 
 -- ── the pieces of a content ──
 -- where the piece from i on ends, as it is found in the part from there
@@ -75,7 +73,7 @@ module _ (c : List ℕ) (i e : ℕ) where
 -- what is left to be asked from a place on: the pieces from there, none behind the end
 pub record LeftFrom (p : ℕ → Bool) (c : List ℕ) (i : ℕ) : Type 0 where
   pub pieces : i ≤ length c → all p (partners_in c) ≡ all p (numbers_of (split 44 (drop i c)))
-  pub none : length c < i → all p (partners_in c) ≡ true
+  pub None : length c < i → all p (partners_in c) ≡ true
 
 module _ (p : ℕ → Bool) (c : List ℕ) where
   -- behind the first comma
@@ -86,7 +84,7 @@ module _ (p : ℕ → Bool) (c : List ℕ) where
         let z : suc (length (up_to 44 c)) ≡ e + 1 = omega (arith, q) in
         ap (λ (ps : List (List ℕ)). all p (numbers_of (drop 1 ps))) (split-more 44 c l)
         ∙ ap (λ (d : List ℕ). all p (numbers_of (split 44 d))) (past-drop 44 c l ∙ ap (λ (k : ℕ). drop k c) z);
-    none = λ h. ap (λ (ps : List (List ℕ)). all p (numbers_of (drop 1 ps))) (split-last 44 c (omega (arith, h, q)));
+    None = λ h. ap (λ (ps : List (List ℕ)). all p (numbers_of (drop 1 ps))) (split-last 44 c (omega (arith, h, q)));
   }
 
   module _ (i e : ℕ) (h : i ≤ length c) (q : e ≡ i + length (up_to 44 (drop i c))) (left : LeftFrom p c i) where
@@ -124,7 +122,7 @@ module _ (p : ℕ → Bool) (c : List ℕ) where
       pub left-next : b ≡ true → LeftFrom p c (e + 1)
       left-next t = record {
         pieces = λ k. more (omega (arith, k)) ∙ ap (λ (a : Bool). a && all p (numbers_of (split 44 (drop (e + 1) c)))) (sym r ∙ t);
-        none = λ k. last (omega (arith, k)) ∙ ap (λ (a : Bool). a && true) (sym r ∙ t);
+        None = λ k. last (omega (arith, k)) ∙ ap (λ (a : Bool). a && true) (sym r ∙ t);
       }
 
       pub left_not : b ≡ false → all p (partners_in c) ≡ false

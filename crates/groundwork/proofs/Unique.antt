@@ -1,5 +1,6 @@
 -- Where a function of this crate states its whole answer, or all that it leaves in what it is lent, there is one (as `Unique` in leaves has
 -- it: FUNCTION-unique in the contract's own words, FUNCTION-code of the contract as the code has it).
+use Rattle.std.specs.Prelude.{Option}
 use Prim.Native.Nat.{ℕ}
 use mathlib.Core.Bool.{Bool}
 use mathlib.Core.List.{List}
@@ -13,7 +14,6 @@ use Rattle.leaves.proofs.Unique.{One}
 use Rattle.entries.specs.declared.Rest.{Rest as Behind}
 use Rattle.entries.specs.Shapes.{rest_in}
 use Rattle.lines.specs.declared.Seen.{Seen}
-use Rattle.account.specs.declared.MaybeClass.{MaybeClass}
 use Rattle.account.specs.declared.Now.{Now}
 use Rattle.account.specs.declared.Pos.{Pos}
 use Rattle.account.specs.declared.Step.{Step}
@@ -41,7 +41,7 @@ at-block_unique n block part r₁ r₂ c₁ c₂ = c₁ ∙ sym c₂
 at-block-code : One at-block'.Kinds.ps at-block'.Kinds.r at-block'.Reads.Learnt (λ κs r e. r)
 at-block-code κs x r₁ r₂ e₁ e₂ = at-block_unique x.0 x.1.0 x.1.1.0 r₁ r₂
 
-pub class_of_unique : (n w : ℕ) (r₁ r₂ : MaybeClass) → r₁ ≡ class_in (class_of n w) → r₂ ≡ class_in (class_of n w) → r₁ ≡ r₂
+pub class_of_unique : (n w : ℕ) (r₁ r₂ : Option Class) → r₁ ≡ class_in (class_of n w) → r₂ ≡ class_in (class_of n w) → r₁ ≡ r₂
 class_of_unique n w r₁ r₂ c₁ c₂ = c₁ ∙ sym c₂
 
 class_of-code : One class-of'.Kinds.ps class-of'.Kinds.r class-of'.Reads.Learnt (λ κs r e. r)

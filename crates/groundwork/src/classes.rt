@@ -3,7 +3,6 @@ ghost use Rattle.std.specs.Prelude.{◌≤◌, ◌≡◌};
 ghost use Rattle.rules.specs.RangeClass.{is_symbol_part, is_wire_part, digits_of, class_of, reaches, exceeds, both, hides};
 ghost use Rattle.account.specs.Classes.{class_in, less_of};
 
-use account::MaybeClass;
 use leaves::bytes::within;
 use rules::{Class, Digits};
 
@@ -39,16 +38,16 @@ fn part_digits(n: u64) -> Digits
 }
 
 // A class by its number and its wire part.
-pub fn class_of(n: u64, wire: u64) -> MaybeClass
+pub fn class_of(n: u64, wire: u64) -> Option<Class>
     ensures { result ≡ class_in (class_of n wire) }
 {
     if !is_symbol_part(n) {
-        return MaybeClass::Not;
+        return None;
     }
     if !is_wire_part(wire) {
-        return MaybeClass::Not;
+        return None;
     }
-    MaybeClass::Is(Class {
+    Some(Class {
         symbols: part_digits(n),
         wires: part_digits(wire),
     })

@@ -13,7 +13,6 @@ use crate::classes::reaches;
 use account::{BLOCK_ENDED, Now, Step, TALLY_SERIALS, TALLY_SYMBOL_RANGE, TALLY_WIRE_RANGE};
 use entries::Rest;
 use entries::names::part;
-use leaves::Count;
 use leaves::bytes::find;
 use leaves::numbers::serial;
 use rules::{Class, Digits, Span};
@@ -175,8 +174,8 @@ fn piece_met(piece: &[u8], kept: &[u64]) -> bool
     ensures { result ≡ all (λ n. has_number n (owns_of kept.now)) (number_in (read_count 10 piece.now)) }
 {
     match serial(piece) {
-        Count::Is(n) => has_own(kept, n),
-        Count::Not => true,
+        Some(n) => has_own(kept, n),
+        None => true,
     }
 }
 

@@ -3,8 +3,8 @@ ghost use Rattle.std.specs.Prelude.{◌≡◌, ◌<◌};
 ghost use Rattle.account.specs.Walk.{seen_from};
 
 use account::{Pos, Volume};
+use lines::Seen;
 use lines::forms::look;
-use lines::{Look, Seen};
 use rules::LineForm;
 
 // The next line of a volume, whose bytes are `body`. Where there is none it is as an ignored line, the volume's last: so a volume without
@@ -14,7 +14,7 @@ pub fn next_line(body: &[u8], v: Volume, p: Pos) -> Seen
     ensures { result ≡ seen_from body.now v p }
 {
     let seen = look(body, v.at, p.at, v.number, p.line + 1);
-    let Look::Line(found) = seen else {
+    let Some(found) = seen else {
         return Seen {
             form: LineForm::Ignored,
             next: p.at,

@@ -4,25 +4,25 @@
 ghost use Rattle.std.specs.Prelude.{◌≡◌, length};
 ghost use Rattle.rules.specs.Answers.{answer_count, read_answer, read_table, packed, check_answer, rewrite_answer, rewrite_output};
 
-use rules::Answer;
+use rules::Refusal;
 use sets::{check, read, rewrite};
 
 // "answers one number: answer + 100 × volume + 10,000 × line"
-fn pack(a: Answer) -> u64
+fn pack(a: Result<u32, Refusal>) -> u64
     ensures { result ≡ packed a }
 {
     match a {
-        Answer::Accepted(_) => 0,
-        Answer::Refused(f) => f.number as u64 + 100 * f.volume as u64 + 10000 * f.line as u64,
+        Ok(_) => 0,
+        Err(f) => f.number as u64 + 100 * f.volume as u64 + 10000 * f.line as u64,
     }
 }
 
-fn count_of(a: Answer) -> u64
+fn count_of(a: Result<u32, Refusal>) -> u64
     ensures { result ≡ answer_count a }
 {
     match a {
-        Answer::Accepted(n) => n as u64,
-        Answer::Refused(_) => 0,
+        Ok(n) => n as u64,
+        Err(_) => 0,
     }
 }
 

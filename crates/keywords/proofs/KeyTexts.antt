@@ -1,4 +1,5 @@
 -- Keys: what is no row of a table has none.
+use Rattle.std.specs.Prelude.{Ok}
 use Prim.Native.Nat.{ℕ, zero, suc, ◌≤◌, zero-le}
 use mathlib.Core.Path.{◌≡◌, refl, sym}
 use mathlib.Core.List.{List, [], ◌∷◌}
@@ -6,7 +7,6 @@ use native.Mathlib.Omega.{arith}
 use lib.ListN.{length}
 use borrow.Author.Tests.{le-leb}
 use Rattle.leaves.specs.Writing.{Puts}
-use Rattle.leaves.specs.declared.Wrote.TheVariants as W
 use Rattle.rules.specs.Rows.{Rule}
 use Rattle.keywords.specs.Keys.{key_at}
 
@@ -19,8 +19,8 @@ no_key [] j h = refl
 no_key (r ∷ t) zero h = absurd (omega arith)
 no_key (r ∷ t) (suc j) h = no_key t j (omega arith)
 
-pub key-none : (t : List Rule) (j : ℕ) (before : List ℕ) → length t ≤ j → Puts (key_at t j) before before (W.Bytes 0)
+pub key-none : (t : List Rule) (j : ℕ) (before : List ℕ) → length t ≤ j → Puts (key_at t j) before before (Ok 0)
 key-none t j before h = rw (no_key t j h) (nothing before)
   where
-    nothing : (b : List ℕ) → Puts [] b b (W.Bytes 0)
+    nothing : (b : List ℕ) → Puts [] b b (Ok 0)
     nothing b = record { answer = sym (rw (le-leb 0 (length b) zero-le)); memory = sym (rw (le-leb 0 (length b) zero-le)) }

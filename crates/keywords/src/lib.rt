@@ -9,7 +9,7 @@ ghost use Rattle.leaves.specs.Writing.{Puts};
 ghost use Rattle.keywords.specs.Keys.{key_at};
 ghost use Rattle.tables.specs.Tables.{table_of};
 
-use leaves::Wrote;
+use leaves::NoRoom;
 use leaves::write::put;
 use tables::keys::{
     AIR, ALL_ELE, ALL_LINE, ARC, B_SYM, BASE, CAD, CHARACTER, CIRCLE, CIRCUIT, CORP, DATE, DIREC,
@@ -27,7 +27,7 @@ use tables::{
 };
 
 // Outside all blocks; the order of the blocks is judged by the reader.
-fn top_key(row: u8, out: &mut [u8]) -> Wrote
+fn top_key(row: u8, out: &mut [u8]) -> Result<usize, NoRoom>
     ensures { Puts (key_at top_table row) out.old out.new result }
 {
     if row == 0 {
@@ -42,11 +42,11 @@ fn top_key(row: u8, out: &mut [u8]) -> Wrote
     if row == 3 {
         return put(&ELEMENT_BLOCK, out);
     }
-    Wrote::Bytes(0)
+    Ok(0)
 }
 
 // FILE_FORMAT of the first volume: its record and the volume's behind it.
-fn file_key(row: u8, out: &mut [u8]) -> Wrote
+fn file_key(row: u8, out: &mut [u8]) -> Result<usize, NoRoom>
     ensures { Puts (key_at file_table row) out.old out.new result }
 {
     if row == 0 {
@@ -97,11 +97,11 @@ fn file_key(row: u8, out: &mut [u8]) -> Wrote
     if row == 15 {
         return put(&NAME, out);
     }
-    Wrote::Bytes(0)
+    Ok(0)
 }
 
 // `range`.
-fn range_key(row: u8, out: &mut [u8]) -> Wrote
+fn range_key(row: u8, out: &mut [u8]) -> Result<usize, NoRoom>
     ensures { Puts (key_at range_table row) out.old out.new result }
 {
     if row == 0 {
@@ -122,21 +122,21 @@ fn range_key(row: u8, out: &mut [u8]) -> Wrote
     if row == 5 {
         return put(&SYM, out);
     }
-    Wrote::Bytes(0)
+    Ok(0)
 }
 
 // `base=001:{`.
-fn base_key(row: u8, out: &mut [u8]) -> Wrote
+fn base_key(row: u8, out: &mut [u8]) -> Result<usize, NoRoom>
     ensures { Puts (key_at base_table row) out.old out.new result }
 {
     if row == 0 {
         return put(&B_SYM, out);
     }
-    Wrote::Bytes(0)
+    Ok(0)
 }
 
 // `elec=001:{`.
-fn elec_key(row: u8, out: &mut [u8]) -> Wrote
+fn elec_key(row: u8, out: &mut [u8]) -> Result<usize, NoRoom>
     ensures { Puts (key_at elec_table row) out.old out.new result }
 {
     if row == 0 {
@@ -148,11 +148,11 @@ fn elec_key(row: u8, out: &mut [u8]) -> Wrote
     if row == 2 {
         return put(&E_CIRNO, out);
     }
-    Wrote::Bytes(0)
+    Ok(0)
 }
 
 // `sym=001:{`.
-fn sym_key(row: u8, out: &mut [u8]) -> Wrote
+fn sym_key(row: u8, out: &mut [u8]) -> Result<usize, NoRoom>
     ensures { Puts (key_at sym_table row) out.old out.new result }
 {
     if row == 0 {
@@ -161,11 +161,11 @@ fn sym_key(row: u8, out: &mut [u8]) -> Wrote
     if row == 1 {
         return put(&S_ELEC, out);
     }
-    Wrote::Bytes(0)
+    Ok(0)
 }
 
 // FILE_FORMAT of later volumes.
-fn later_key(row: u8, out: &mut [u8]) -> Wrote
+fn later_key(row: u8, out: &mut [u8]) -> Result<usize, NoRoom>
     ensures { Puts (key_at later_table row) out.old out.new result }
 {
     if row == 0 {
@@ -183,11 +183,11 @@ fn later_key(row: u8, out: &mut [u8]) -> Wrote
     if row == 4 {
         return put(&TIME, out);
     }
-    Wrote::Bytes(0)
+    Ok(0)
 }
 
 // DRAWING_FORMAT; its range is arc.
-fn drawing_key(row: u8, out: &mut [u8]) -> Wrote
+fn drawing_key(row: u8, out: &mut [u8]) -> Result<usize, NoRoom>
     ensures { Puts (key_at drawing_table row) out.old out.new result }
 {
     if row == 0 {
@@ -214,11 +214,11 @@ fn drawing_key(row: u8, out: &mut [u8]) -> Wrote
     if row == 7 {
         return put(&LAYER_NAME, out);
     }
-    Wrote::Bytes(0)
+    Ok(0)
 }
 
 // SYMBOL_DEFINE; its range is S_elec.
-fn defines_key(row: u8, out: &mut [u8]) -> Wrote
+fn defines_key(row: u8, out: &mut [u8]) -> Result<usize, NoRoom>
     ensures { Puts (key_at defines_table row) out.old out.new result }
 {
     if row == 0 {
@@ -227,11 +227,11 @@ fn defines_key(row: u8, out: &mut [u8]) -> Wrote
     if row == 1 {
         return put(&E_SYMBOL, out);
     }
-    Wrote::Bytes(0)
+    Ok(0)
 }
 
 // E_symbol in SYMBOL_DEFINE; its range is S_elec.
-fn symbol_key(row: u8, out: &mut [u8]) -> Wrote
+fn symbol_key(row: u8, out: &mut [u8]) -> Result<usize, NoRoom>
     ensures { Puts (key_at symbol_table row) out.old out.new result }
 {
     if row == 0 {
@@ -246,21 +246,21 @@ fn symbol_key(row: u8, out: &mut [u8]) -> Wrote
     if row == 3 {
         return put(&WALL, out);
     }
-    Wrote::Bytes(0)
+    Ok(0)
 }
 
 // ELEMENT.
-fn element_key(row: u8, out: &mut [u8]) -> Wrote
+fn element_key(row: u8, out: &mut [u8]) -> Result<usize, NoRoom>
     ensures { Puts (key_at element_table row) out.old out.new result }
 {
     if row == 0 {
         return put(&LAYER, out);
     }
-    Wrote::Bytes(0)
+    Ok(0)
 }
 
 // The figures of a layer, and a placed symbol among them.
-fn layer_key(row: u8, out: &mut [u8]) -> Wrote
+fn layer_key(row: u8, out: &mut [u8]) -> Result<usize, NoRoom>
     ensures { Puts (key_at (layer_table false false) row) out.old out.new result }
 {
     if row == 0 {
@@ -284,11 +284,11 @@ fn layer_key(row: u8, out: &mut [u8]) -> Wrote
     if row == 6 {
         return put(&E_SYMBOL, out);
     }
-    Wrote::Bytes(0)
+    Ok(0)
 }
 
 // The figures of a symbol's `element`.
-fn figure_key(row: u8, out: &mut [u8]) -> Wrote
+fn figure_key(row: u8, out: &mut [u8]) -> Result<usize, NoRoom>
     ensures { Puts (key_at figure_table row) out.old out.new result }
 {
     if row == 0 {
@@ -309,21 +309,21 @@ fn figure_key(row: u8, out: &mut [u8]) -> Wrote
     if row == 5 {
         return put(&TEXT, out);
     }
-    Wrote::Bytes(0)
+    Ok(0)
 }
 
 // `successive` or `hide`.
-fn point_key(row: u8, out: &mut [u8]) -> Wrote
+fn point_key(row: u8, out: &mut [u8]) -> Result<usize, NoRoom>
     ensures { Puts (key_at (point_table true) row) out.old out.new result }
 {
     if row == 0 {
         return put(&POINT, out);
     }
-    Wrote::Bytes(0)
+    Ok(0)
 }
 
 // `text`.
-fn lettering_key(row: u8, out: &mut [u8]) -> Wrote
+fn lettering_key(row: u8, out: &mut [u8]) -> Result<usize, NoRoom>
     ensures { Puts (key_at (text_table true 4 12) row) out.old out.new result }
 {
     if row == 0 {
@@ -332,11 +332,11 @@ fn lettering_key(row: u8, out: &mut [u8]) -> Wrote
     if row == 1 {
         return put(&CHARACTER, out);
     }
-    Wrote::Bytes(0)
+    Ok(0)
 }
 
 // A placed symbol's block; its range is E_sym.
-fn placed_key(row: u8, out: &mut [u8]) -> Wrote
+fn placed_key(row: u8, out: &mut [u8]) -> Result<usize, NoRoom>
     ensures { Puts (key_at placed_table row) out.old out.new result }
 {
     if row == 0 {
@@ -357,11 +357,11 @@ fn placed_key(row: u8, out: &mut [u8]) -> Wrote
     if row == 5 {
         return put(&SERIAL, out);
     }
-    Wrote::Bytes(0)
+    Ok(0)
 }
 
 // A wire's block; its range is the last two digits of E_wire.
-fn wire_key(row: u8, out: &mut [u8]) -> Wrote
+fn wire_key(row: u8, out: &mut [u8]) -> Result<usize, NoRoom>
     ensures { Puts (key_at wire_table row) out.old out.new result }
 {
     if row == 0 {
@@ -394,11 +394,11 @@ fn wire_key(row: u8, out: &mut [u8]) -> Wrote
     if row == 9 {
         return put(&SERIAL, out);
     }
-    Wrote::Bytes(0)
+    Ok(0)
 }
 
 // The figures of a layer, and a placed symbol and a wire among them.
-fn wired_layer_key(row: u8, out: &mut [u8]) -> Wrote
+fn wired_layer_key(row: u8, out: &mut [u8]) -> Result<usize, NoRoom>
     ensures { Puts (key_at (layer_table false true) row) out.old out.new result }
 {
     if row == 0 {
@@ -425,11 +425,11 @@ fn wired_layer_key(row: u8, out: &mut [u8]) -> Wrote
     if row == 7 {
         return put(&E_WIRE, out);
     }
-    Wrote::Bytes(0)
+    Ok(0)
 }
 
 // The key of a table's row at the front of out, where it fits; what is no row has no key.
-pub fn put_key(table: u8, row: u8, out: &mut [u8]) -> Wrote
+pub fn put_key(table: u8, row: u8, out: &mut [u8]) -> Result<usize, NoRoom>
     ensures { Puts (key_at (table_of table) row) out.old out.new result }
 {
     if table == TABLE_TOP {
@@ -501,5 +501,5 @@ pub fn put_key(table: u8, row: u8, out: &mut [u8]) -> Wrote
     if table == TABLE_SINGLE_WIRED_LAYER {
         return wired_layer_key(row, out);
     }
-    Wrote::Bytes(0)
+    Ok(0)
 }

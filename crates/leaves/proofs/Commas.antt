@@ -1,9 +1,9 @@
 -- A decimal before a comma: digits, a point and digits, by the places where they end.
+use Rattle.std.specs.Prelude.{Option, Some, None}
 use Prim.Native.Nat.{ℕ, suc, ◌+◌, ◌-◌, ◌*◌, ◌^◌, ◌<◌, ◌≤◌}
 use mathlib.Core.Path.{◌≡◌, refl, ap, sym, subst, ◌∙◌}
 use mathlib.Core.List.{List, [], ◌∷◌, ◌++◌, append-nil}
 use mathlib.Core.Bool.{Bool, true, false, cond, ◌&&◌}
-use mathlib.Core.Option.{Option, none, some}
 use native.Mathlib.Nat.{lt_of_lt_of_le}
 use native.Mathlib.Omega.{arith}
 use lib.Dec.{eqb, leb}
@@ -18,9 +18,7 @@ use Rattle.leaves.specs.Bytes.{up_to, past}
 use Rattle.leaves.specs.Readings.{sign_of}
 use Rattle.leaves.specs.Pieces.{decimal_piece, sign_length, size_at, size_piece, DigitsRead, RunRead}
 use Rattle.leaves.specs.declared.DecimalPiece.{DecimalPiece}
-use Rattle.leaves.specs.declared.Reading.TheVariants as R
 use Rattle.leaves.specs.declared.pieces.SizeEnd.{SizeEnd}
-use Rattle.leaves.specs.declared.pieces.SizePiece.TheVariants as P
 use Rattle.leaves.proofs.Scan.{at, up_to-end, up_to_hit, up_to_miss}
 use Rattle.leaves.proofs.Cuts.{up_to-none, cut-whole, cut-two}
 use Rattle.leaves.proofs.Digits.{digit_bounds, value_lt, ten-most, OnSome}
@@ -145,10 +143,10 @@ up_to-other : (c b : ℕ) (l : List ℕ) → (b ≡ c → ⊥) → up_to c (b �
 unfolding up_to
 up_to-other c b l h = rw (ne_eqb b c h)
 
-size_none : (p : List ℕ) → digit_run 1 7 (up_to 46 p) ≡ false → read_size p ≡ none
+size_none : (p : List ℕ) → digit_run 1 7 (up_to 46 p) ≡ false → read_size p ≡ None
 size_none p h = go (leb (length p) (length (up_to 46 p))) refl
   where
-    go : (t : Bool) → leb (length p) (length (up_to 46 p)) ≡ t → read_size p ≡ none
+    go : (t : Bool) → leb (length p) (length (up_to 46 p)) ≡ t → read_size p ≡ None
     go true e =
         let l = leb-true (length p) (length (up_to 46 p)) e in
         rw (cut-whole 46 p l, rw (up_to-none 46 p l) at h)
@@ -197,40 +195,40 @@ module _ (s : List ℕ) (a most v i : ℕ) (r : RunRead s a most (record { value
 
 -- ── a size, as it is answered ──
 module _ (s : List ℕ) (a : ℕ) where
-  is-size : (v e : ℕ) → read_size (up_to 44 (drop a s)) ≡ some v → e ≡ a + length (up_to 44 (drop a s)) → P.Is (record { value = v; end = e }) ≡ size_piece a s
+  is-size : (v e : ℕ) → read_size (up_to 44 (drop a s)) ≡ Some v → e ≡ a + length (up_to 44 (drop a s)) → Some (record { value = v; end = e }) ≡ size_piece a s
   unfolding size_piece
   is-size v e r q = rw (r, q)
 
-  no_size : read_size (up_to 44 (drop a s)) ≡ none → P.Not ≡ size_piece a s
+  no_size : read_size (up_to 44 (drop a s)) ≡ None → None ≡ size_piece a s
   unfolding size_piece
   no_size r = rw r
 
-  pub size-was : (z : SizeEnd) → size_piece a s ≡ P.Is z → (read_size (up_to 44 (drop a s)) ≡ some z.value) × (z.end ≡ a + length (up_to 44 (drop a s)))
+  pub size-was : (z : SizeEnd) → size_piece a s ≡ Some z → (read_size (up_to 44 (drop a s)) ≡ Some z.value) × (z.end ≡ a + length (up_to 44 (drop a s)))
   unfolding size_piece
   size-was z e = go (read_size (up_to 44 (drop a s))) e
     where
-      go : (o : Option ℕ) → size_at (a + length (up_to 44 (drop a s))) o ≡ P.Is z → (o ≡ some z.value) × (z.end ≡ a + length (up_to 44 (drop a s)))
-      go none e = absurd (let n : ◌≡◌ {A = ℕ} 0 1 = cc in omega arith)
-      go (some v) e = let q : record { value = v; end = a + length (up_to 44 (drop a s)) } ≡ z = cc in (ap (λ (y : SizeEnd). some y.value) q, ap (λ (y : SizeEnd). y.end) (sym q))
+      go : (o : Option ℕ) → size_at (a + length (up_to 44 (drop a s))) o ≡ Some z → (o ≡ Some z.value) × (z.end ≡ a + length (up_to 44 (drop a s)))
+      go None e = absurd (let n : ◌≡◌ {A = ℕ} 0 1 = cc in omega arith)
+      go (Some v) e = let q : record { value = v; end = a + length (up_to 44 (drop a s)) } ≡ z = cc in (ap (λ (y : SizeEnd). Some y.value) q, ap (λ (y : SizeEnd). y.end) (sym q))
 
-  pub size-was-not : size_piece a s ≡ P.Not → read_size (up_to 44 (drop a s)) ≡ none
+  pub size-was-not : size_piece a s ≡ None → read_size (up_to 44 (drop a s)) ≡ None
   unfolding size_piece
   size-was-not e = go (read_size (up_to 44 (drop a s))) e
     where
-      go : (o : Option ℕ) → size_at (a + length (up_to 44 (drop a s))) o ≡ P.Not → o ≡ none
-      go none e = refl
-      go (some v) e = absurd (let n : ◌≡◌ {A = ℕ} 0 1 = cc in omega arith)
+      go : (o : Option ℕ) → size_at (a + length (up_to 44 (drop a s))) o ≡ None → o ≡ None
+      go None e = refl
+      go (Some v) e = absurd (let n : ◌≡◌ {A = ℕ} 0 1 = cc in omega arith)
 
-pub size-some : (s : List ℕ) (n : ℕ) → read_size s ≡ some n → n < 100000000000
+pub size-some : (s : List ℕ) (n : ℕ) → read_size s ≡ Some n → n < 100000000000
 size-some s n e = subst (OnSome (λ m. m < 100000000000)) e (size_below s)
 
 -- ── the whole number ──
 module _ (s : List ℕ) (a v i : ℕ) (r : RunRead s a 7 (record { value = v; end = i })) where
-  pub no-digit-first : i ≡ a → P.Not ≡ size_piece a s
+  pub no-digit-first : i ≡ a → None ≡ size_piece a s
   no-digit-first e =
       no_size s a (size_none (up_to 44 (drop a s)) (first_no 7 (up_to 46 (up_to 44 (drop a s))) (up_to-first 46 (up_to 44 (drop a s)) (none-there s a 7 v i r (omega arith) e))))
 
-  pub whole-alone : (i ≡ a → ⊥) → is_nil (up_to 44 (drop i s)) ≡ true → P.Is (record { value = v * 10000; end = i }) ≡ size_piece a s
+  pub whole-alone : (i ≡ a → ⊥) → is_nil (up_to 44 (drop i s)) ≡ true → Some (record { value = v * 10000; end = i }) ≡ size_piece a s
   whole-alone n e =
       let p = all-piece s a 7 v i r e in
       is-size s a (v * 10000) i
@@ -238,7 +236,7 @@ module _ (s : List ℕ) (a v i : ℕ) (r : RunRead s a 7 (record { value = v; en
       (rw p (omega (arith, run_long s a i r.read.start r.read.room, r.read.start)))
 
   module _ (on : is_nil (up_to 44 (drop i s)) ≡ false) where
-    pub whole-broken : (get_or s i 0 ≡ 46 → ⊥) → P.Not ≡ size_piece a s
+    pub whole-broken : (get_or s i 0 ≡ 46 → ⊥) → None ≡ size_piece a s
     whole-broken n =
         let p : up_to 46 (up_to 44 (drop a s)) ≡ take (i - a) (drop a s) ++ get_or s i 0 ∷ up_to 46 (up_to 44 (drop (i + 1) s)) =
         ap (up_to 46) (in-piece s a 7 v i r ∙ ap (λ (l : List ℕ). take (i - a) (drop a s) ++ l) (on-with s i on))
@@ -256,19 +254,19 @@ module _ (s : List ℕ) (a v i : ℕ) (r : RunRead s a 7 (record { value = v; en
       two-parts : cut 46 (up_to 44 (drop a s)) ≡ parts (take (i - a) (drop a s)) (up_to 44 (drop (i + 1) s))
       two-parts = ap (cut 46) by-point ∙ cut-behind 46 (omega arith) (take (i - a) (drop a s)) (up_to 44 (drop (i + 1) s)) r.read.digits
 
-      no_fraction : digit_run 1 4 (up_to 44 (drop (i + 1) s)) ≡ false → P.Not ≡ size_piece a s
+      no_fraction : digit_run 1 4 (up_to 44 (drop (i + 1) s)) ≡ false → None ≡ size_piece a s
       no_fraction h = no_size s a (rw (two-parts, h, and_false (digit_run 1 7 (take (i - a) (drop a s)))))
 
-      pub no-digit-behind : j ≡ i + 1 → P.Not ≡ size_piece a s
+      pub no-digit-behind : j ≡ i + 1 → None ≡ size_piece a s
       no-digit-behind e = no_fraction (first_no 4 (up_to 44 (drop (i + 1) s)) (none-there s (i + 1) 4 f j q (omega arith) e))
 
-      pub fraction-broken : is_nil (up_to 44 (drop j s)) ≡ false → P.Not ≡ size_piece a s
+      pub fraction-broken : is_nil (up_to 44 (drop j s)) ≡ false → None ≡ size_piece a s
       fraction-broken e =
           let p = in-piece s (i + 1) 4 f j q ∙ ap (λ (l : List ℕ). take (j - (i + 1)) (drop (i + 1) s) ++ l) (on-with s j e) in
           no_fraction (rw p (broken-run s (i + 1) 4 f j q (up_to 44 (drop (j + 1) s))))
 
       pub both-parts : (i ≡ a → ⊥) → (j ≡ i + 1 → ⊥) → is_nil (up_to 44 (drop j s)) ≡ true → (u : ℕ) → u ≡ 10 ^ (4 - (j - (i + 1)))
-          → P.Is (record { value = v * 10000 + f * u; end = j }) ≡ size_piece a s
+          → Some (record { value = v * 10000 + f * u; end = j }) ≡ size_piece a s
       both-parts n m e u h =
           let b = all-piece s (i + 1) 4 f j q e in
           let l = run_long s (i + 1) j q.read.start q.read.room in
@@ -280,7 +278,7 @@ module _ (s : List ℕ) (a v i : ℕ) (r : RunRead s a 7 (record { value = v; en
 -- ── the sign ──
 -- a piece with this value that ends here
 abbrev pub piece_at : ℕ → ℤ → DecimalPiece
-piece_at e z = record { reading = R.Is (record { value = z }); end = e }
+piece_at e z = record { reading = Some (record { value = z }); end = e }
 
 minus_sign : (s : List ℕ) → (read_decimal (up_to 44 (45 ∷ s)) ≡ map_o minus (read_size (up_to 44 s))) × (length (up_to 44 (45 ∷ s)) ≡ 1 + length (up_to 44 s))
 unfolding up_to
@@ -312,11 +310,11 @@ module _ (s : List ℕ) (k : ℕ) (g : k ≡ sign_length s) where
   end-behind : length (up_to 44 s) ≡ k + length (up_to 44 (drop k s))
   end-behind = rw g (by_sign s).1
 
-  pub not_piece : (e : ℕ) → e ≡ length (up_to 44 s) → size_piece k s ≡ P.Not → record { reading = R.Not; end = e } ≡ decimal_piece s
+  pub not_piece : (e : ℕ) → e ≡ length (up_to 44 s) → size_piece k s ≡ None → record { reading = None; end = e } ≡ decimal_piece s
   unfolding decimal_piece
   not_piece e q h = rw (behind_sign, size-was-not s k h, q)
 
-  module _ (z : SizeEnd) (h : size_piece k s ≡ P.Is z) where
+  module _ (z : SizeEnd) (h : size_piece k s ≡ Some z) where
     pub minus-piece : k ≡ 1 → piece_at z.end (minus z.value) ≡ decimal_piece s
     unfolding decimal_piece
     minus-piece o = let w = size-was s k z h in rw (behind_sign, w.0, eq-eqb k 1 o, end-behind, w.1)
@@ -376,18 +374,18 @@ comma-parts (b ∷ p) = go (eqb b 44) refl (eqb b 46) refl (comma-parts p)
     go false e true f ih h = comma-digits p (omega arith)
     go false e false f ih h = more_no (is_digit b) (all is_digit (up_to 46 p)) (all is_digit (past 46 p)) (ih (omega arith))
 
-comma-size : (p : List ℕ) → length (up_to 44 p) < length p → read_size p ≡ none
+comma-size : (p : List ℕ) → length (up_to 44 p) < length p → read_size p ≡ None
 comma-size p h = go (leb (length p) (length (up_to 46 p))) refl
   where
-    go : (t : Bool) → leb (length p) (length (up_to 46 p)) ≡ t → read_size p ≡ none
+    go : (t : Bool) → leb (length p) (length (up_to 46 p)) ≡ t → read_size p ≡ None
     go true e = rw (cut-whole 46 p (leb-true (length p) (length (up_to 46 p)) e), comma-digits p h)
     go false e =
         rw (cut-two 46 p (leb-false (length p) (length (up_to 46 p)) e), both_no (all is_digit (up_to 46 p)) (within 1 7 (length (up_to 46 p))) (all is_digit (past 46 p)) (within 1 4 (length (past 46 p))) (comma-parts p h))
 
-pub comma-decimal : (s : List ℕ) → length (up_to 44 s) < length s → read_decimal s ≡ none
+pub comma-decimal : (s : List ℕ) → length (up_to 44 s) < length s → read_decimal s ≡ None
 comma-decimal [] h = refl
 comma-decimal (b ∷ s) h = go (eqb b 45) refl
   where
-    go : (t : Bool) → eqb b 45 ≡ t → cond t (map_o minus (read_size s)) (map_o pos (read_size (b ∷ s))) ≡ none
+    go : (t : Bool) → eqb b 45 ≡ t → cond t (map_o minus (read_size s)) (map_o pos (read_size (b ∷ s))) ≡ None
     go true e = rw (comma-size s (omega (arith, (minus_sign s).1, rw (eqb-true b 45 e) at h)))
     go false e = rw (comma-size (b ∷ s) h)

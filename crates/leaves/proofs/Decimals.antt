@@ -1,9 +1,9 @@
 -- Decimals: zeros at the end of their digits, and the bounds of what is read.
+use Rattle.std.specs.Prelude.{Option, Some, None}
 use Prim.Native.Nat.{ℕ, zero, suc, ◌+◌, ◌-◌, ◌*◌, ◌^◌, ◌<◌, ◌≤◌}
 use mathlib.Core.Path.{◌≡◌, refl, ap, ◌∙◌}
 use mathlib.Core.List.{List, [], ◌∷◌}
 use mathlib.Core.Bool.{Bool, true, false, cond, ◌&&◌}
-use mathlib.Core.Option.{Option, none, some}
 use native.Mathlib.Nat.{not-suc-le-zero, lt_of_lt_of_le, pow-succ'}
 use native.Mathlib.Omega.{arith}
 use lib.Dec.{eqb, leb}
@@ -33,16 +33,16 @@ pad-value (suc w) a (b ∷ s) h =
 -- ── the point ──
 -- the digits before and behind a decimal's point, in ten-thousandths
 unfoldable whole_of : List ℕ → Option ℕ
-whole_of s = cond (digit_run 1 7 s) (some (value s * 10000)) none
+whole_of s = cond (digit_run 1 7 s) (Some (value s * 10000)) None
 
 unfoldable fraction_of : List ℕ → Option ℕ
-fraction_of s = cond (digit_run 1 4 s) (some (value (pad_end 4 s))) none
+fraction_of s = cond (digit_run 1 4 s) (Some (value (pad_end 4 s))) None
 
 -- both parts, or nothing
 abbrev added : Option ℕ → Option ℕ → Option ℕ
-added none f = none
-added (some v) none = none
-added (some v) (some f) = some (v + f)
+added None f = None
+added (Some v) None = None
+added (Some v) (Some f) = Some (v + f)
 
 size-whole : (s : List ℕ) → length s ≤ length (up_to 46 s) → read_size s ≡ whole_of s
 unfolding whole_of
@@ -52,7 +52,7 @@ size-two : (s : List ℕ) → length (up_to 46 s) < length s → read_size s ≡
 unfolding whole_of fraction_of
 size-two s h = rw (cut-two 46 s h) (go (digit_run 1 7 (up_to 46 s)) (digit_run 1 4 (past 46 s)))
   where
-    go : (a b : Bool) → cond (a && b) (some (value (up_to 46 s) * 10000 + value (pad_end 4 (past 46 s)))) none ≡ added (cond a (some (value (up_to 46 s) * 10000)) none) (cond b (some (value (pad_end 4 (past 46 s)))) none)
+    go : (a b : Bool) → cond (a && b) (Some (value (up_to 46 s) * 10000 + value (pad_end 4 (past 46 s)))) None ≡ added (cond a (Some (value (up_to 46 s) * 10000)) None) (cond b (Some (value (pad_end 4 (past 46 s)))) None)
     go true true = refl
     go true false = refl
     go false b = refl
@@ -84,16 +84,16 @@ whole_below s = on-cond (λ v. v < 99999990001) (digit_run 1 7 s) (value s * 100
     omega arith
 
 added-below : (o p : Option ℕ) → OnSome (λ v. v < 99999990001) o → OnSome (λ f. f < 10000) p → OnSome (λ v. v < 100000000000) (added o p)
-added-below none p h k = tt
-added-below (some v) none h k = tt
-added-below (some v) (some f) h k = omega arith
+added-below None p h k = tt
+added-below (Some v) None h k = tt
+added-below (Some v) (Some f) h k = omega arith
 
 pub size_below : (s : List ℕ) → OnSome (λ v. v < 100000000000) (read_size s)
 size_below s = go (leb (length s) (length (up_to 46 s))) refl
   where
     wider : (o : Option ℕ) → OnSome (λ v. v < 99999990001) o → OnSome (λ v. v < 100000000000) o
-    wider none h = tt
-    wider (some v) h = omega arith
+    wider None h = tt
+    wider (Some v) h = omega arith
 
     go : (t : Bool) → leb (length s) (length (up_to 46 s)) ≡ t → OnSome (λ v. v < 100000000000) (read_size s)
     go true e = rw (size-whole s (leb-true (length s) (length (up_to 46 s)) e)) (wider (whole_of s) (whole_below s))
@@ -104,18 +104,18 @@ abbrev pub in_reach : ℤ → Bool
 in_reach z = le_z (negsuc 99999999998) z && le_z z (pos 99999999999)
 
 abbrev pub Reached : Option ℤ → Type 0
-Reached none = Unit {0}
-Reached (some z) = in_reach z ≡ true
+Reached None = Unit {0}
+Reached (Some z) = in_reach z ≡ true
 
 pub decimal_reach : (s : List ℕ) → Reached (read_decimal s)
 decimal_reach [] = tt
 decimal_reach (b ∷ s) = by_cond Reached (eqb b 45) (λ e. down (read_size s) (size_below s)) (λ e. up (read_size (b ∷ s)) (size_below (b ∷ s)))
   where
     up : (o : Option ℕ) → OnSome (λ v. v < 100000000000) o → Reached (map_o pos o)
-    up none h = tt
-    up (some v) h = le-leb v 99999999999 (omega arith)
+    up None h = tt
+    up (Some v) h = le-leb v 99999999999 (omega arith)
 
     down : (o : Option ℕ) → OnSome (λ v. v < 100000000000) o → Reached (map_o minus o)
-    down none h = tt
-    down (some zero) h = refl
-    down (some (suc v)) h = and_true _ _ (le-leb v 99999999998 (omega arith)) refl
+    down None h = tt
+    down (Some zero) h = refl
+    down (Some (suc v)) h = and_true _ _ (le-leb v 99999999998 (omega arith)) refl

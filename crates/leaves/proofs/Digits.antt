@@ -1,9 +1,9 @@
 -- Runs of digits: one step of reading them by index, and what the number read is below.
+use Rattle.std.specs.Prelude.{Option, Some, None}
 use Prim.Native.Nat.{ℕ, suc, ◌+◌, ◌-◌, ◌*◌, ◌^◌, ◌<◌, ◌≤◌}
 use mathlib.Core.Path.{◌≡◌, refl, sym}
 use mathlib.Core.List.{List, [], ◌∷◌}
 use mathlib.Core.Bool.{Bool, true, false, cond}
-use mathlib.Core.Option.{Option, none, some}
 use native.Mathlib.Numerals.{add-one}
 use native.Mathlib.Nat.{lt_of_lt_of_le, le_trans, le_of_eq, mul-le-mul_right, pow-succ', pow-le-pow_right}
 use native.Mathlib.Omega.{arith}
@@ -13,8 +13,7 @@ use borrow.Author.Tests.{le-leb, lt-leb, leb-true}
 use Rattle.rules.specs.Base.{all}
 use Rattle.rules.specs.Numbers.{is_digit, digit_run, value_from, value}
 use Rattle.rules.proofs.Chains.{and_left, and_right, and_false}
-use Rattle.leaves.specs.Readings.{count_of, read_run, run_from, kept}
-use Rattle.leaves.specs.declared.Count.TheVariants as C
+use Rattle.leaves.specs.Readings.{read_run, run_from, kept}
 use Rattle.leaves.proofs.Scan.{at, and_truth}
 
 pub digit_bounds : (b : ℕ) → is_digit b ≡ true → (48 ≤ b) × (b ≤ 57)
@@ -26,11 +25,11 @@ module _ (v : ℕ) (s : List ℕ) (i : ℕ) where
   unfolding run_from
   run_step h e = rw (at s i h, e)
 
-  pub run-stop : i < length s → is_digit (get_or s i 0) ≡ false → run_from v (drop i s) ≡ none
+  pub run-stop : i < length s → is_digit (get_or s i 0) ≡ false → run_from v (drop i s) ≡ None
   unfolding run_from
   run-stop h e = rw (at s i h, e)
 
-  pub run_end : length s ≤ i → run_from v (drop i s) ≡ some v
+  pub run_end : length s ≤ i → run_from v (drop i s) ≡ Some v
   unfolding run_from
   run_end h = rw (drop_of_length-le s h)
 
@@ -43,10 +42,10 @@ ten-most i m h = pow-le-pow_right (lit≤ tt) h
 
 -- ── how many ──
 module _ (lo hi : ℕ) (s : List ℕ) where
-  pub run_short : length s < lo → read_run lo hi s ≡ none
+  pub run_short : length s < lo → read_run lo hi s ≡ None
   run_short h = rw (lt-leb lo (length s) h, and_false (all is_digit s))
 
-  pub run_long : lo ≤ length s → hi < length s → read_run lo hi s ≡ none
+  pub run_long : lo ≤ length s → hi < length s → read_run lo hi s ≡ None
   run_long l h = rw (le-leb lo (length s) l, lt-leb (length s) hi h, and_false (all is_digit s))
 
   pub run_fits : lo ≤ length s → length s ≤ hi → read_run lo hi s ≡ run_from 0 s
@@ -73,21 +72,21 @@ value-below (b ∷ s) a h =
 pub value_lt : (s : List ℕ) → all is_digit s ≡ true → value s < 10 ^ length s
 value_lt s d = lt_of_lt_of_le (value-below s 0 d) (le_of_eq (omega arith))
 
-pub not_is : {P : Type 0} {n : ℕ} → C.Not ≡ C.Is n → P
+pub not_is : {P : Type 0} {n : ℕ} → None ≡ Some n → P
 not_is e = absurd (let z : ◌≡◌ {A = ℕ} 0 1 = cc in omega arith)
 
 -- what holds of the number, where there is one
 abbrev pub OnSome : (ℕ → Type 0) → Option ℕ → Type 0
-OnSome P none = Unit {0}
-OnSome P (some n) = P n
+OnSome P None = Unit {0}
+OnSome P (Some n) = P n
 
-pub on-cond : (P : ℕ → Type 0) (t : Bool) (n : ℕ) → (t ≡ true → P n) → OnSome P (cond t (some n) none)
+pub on-cond : (P : ℕ → Type 0) (t : Bool) (n : ℕ) → (t ≡ true → P n) → OnSome P (cond t (Some n) None)
 on-cond P true n h = h refl
 on-cond P false n h = tt
 
-pub on-is : (P : ℕ → Type 0) (o : Option ℕ) (n : ℕ) → OnSome P o → count_of o ≡ C.Is n → P n
-on-is P none n h e = not_is e
-on-is P (some m) n h e = let q : m ≡ n = cc in rw (← q) h
+pub on-is : (P : ℕ → Type 0) (o : Option ℕ) (n : ℕ) → OnSome P o → o ≡ Some n → P n
+on-is P None n h e = not_is e
+on-is P (Some m) n h e = let q : m ≡ n = cc in rw (← q) h
 
 -- a run of lo to hi digits is below 10 to hi: so are counts, serial numbers and fixed digits
 pub run-below : (lo hi : ℕ) (s : List ℕ) → OnSome (λ n. n < 10 ^ hi) (read_run lo hi s)
@@ -95,18 +94,18 @@ run-below lo hi s = on-cond (λ n. n < 10 ^ hi) (digit_run lo hi s) (value s) λ
     lt_of_lt_of_le (value_lt s (and_left (all is_digit s) _ e)) (ten-most (length s) hi (run_length lo hi s e))
 
 -- ── a test behind a reading ──
-pub kept_yes : (p : ℕ → Bool) (o : Option ℕ) (n : ℕ) → count_of o ≡ C.Is n → p n ≡ true → count_of (kept p o) ≡ C.Is n
-kept_yes p none n e h = e
-kept_yes p (some m) n e h = let q : m ≡ n = cc in rw (q, h)
+pub kept_yes : (p : ℕ → Bool) (o : Option ℕ) (n : ℕ) → o ≡ Some n → p n ≡ true → kept p o ≡ Some n
+kept_yes p None n e h = e
+kept_yes p (Some m) n e h = let q : m ≡ n = cc in rw (q, h)
 
-pub kept_no : (p : ℕ → Bool) (o : Option ℕ) (n : ℕ) → count_of o ≡ C.Is n → p n ≡ false → count_of (kept p o) ≡ C.Not
-kept_no p none n e h = refl
-kept_no p (some m) n e h = let q : m ≡ n = cc in rw (q, h)
+pub kept_no : (p : ℕ → Bool) (o : Option ℕ) (n : ℕ) → o ≡ Some n → p n ≡ false → kept p o ≡ None
+kept_no p None n e h = refl
+kept_no p (Some m) n e h = let q : m ≡ n = cc in rw (q, h)
 
-pub kept-none : (p : ℕ → Bool) (o : Option ℕ) → count_of o ≡ C.Not → count_of (kept p o) ≡ C.Not
-kept-none p none e = refl
-kept-none p (some m) e = not_is (sym e)
+pub kept-none : (p : ℕ → Bool) (o : Option ℕ) → o ≡ None → kept p o ≡ None
+kept-none p None e = refl
+kept-none p (Some m) e = not_is (sym e)
 
 pub kept-below : (p : ℕ → Bool) (m : ℕ) (o : Option ℕ) → OnSome (λ n. n < m) o → OnSome (λ n. n < m) (kept p o)
-kept-below p m none h = tt
-kept-below p m (some n) h = on-cond (λ k. k < m) (p n) n (λ e. h)
+kept-below p m None h = tt
+kept-below p m (Some n) h = on-cond (λ k. k < m) (p n) n (λ e. h)

@@ -2,6 +2,7 @@
 -- same lent memory, they are equal, and so is the memory that comes back.
 -- FUNCTION-unique says it in the contract's own words, with `s` for `now s.entry` and `out₁`, `out₂` for `now out.exit`.
 -- FUNCTION-code says it of the contract as the code has it: were it worded otherwise, this would not be proved.
+use Rattle.std.specs.Prelude.{Option, Result}
 use Prim.Native.Nat.{ℕ}
 use mathlib.Core.Bool.{Bool, ◌&&◌, ◌||◌}
 use mathlib.Core.List.{List}
@@ -17,18 +18,13 @@ use Rattle.rules.specs.Lines.{allowed}
 use Rattle.rules.specs.Numbers.{read_count, read_decimal, fixed, show_count, show_size, show_decimal}
 use Rattle.rules.specs.Values.{capital, byte_in, is_layer_id, find_sheet, sheets, read_ratio, show_sheet, show_ratio}
 use Rattle.leaves.specs.Bytes.{up_to, bytes_of}
-use Rattle.leaves.specs.Readings.{count_of, reading_of, read_up_to_eight, read_day, read_clock}
+use Rattle.leaves.specs.Readings.{reading_of, read_up_to_eight, read_day, read_clock}
 use Rattle.leaves.specs.Pieces.{decimal_piece}
 use Rattle.leaves.specs.Drawing.{sheet_of, ratio_of}
 use Rattle.leaves.specs.Texts.{text_rules, no_text}
 use Rattle.leaves.specs.Writing.{Puts, width}
-use Rattle.leaves.specs.declared.Count.{Count}
-use Rattle.leaves.specs.declared.Reading.{Reading}
 use Rattle.leaves.specs.declared.DecimalPiece.{DecimalPiece}
-use Rattle.leaves.specs.declared.Sheet.{Sheet}
-use Rattle.leaves.specs.declared.Ratio.{Ratio}
 use Rattle.leaves.specs.declared.TextRule.{TextRule}
-use Rattle.leaves.specs.declared.Wrote.{Wrote}
 use Rattle.leaves.proofs.truth.both as both'
 use Rattle.leaves.proofs.truth.either as either'
 use Rattle.leaves.proofs.bytes.same as same'
@@ -58,6 +54,10 @@ use Rattle.leaves.proofs.write.put_size as put-size'
 use Rattle.leaves.proofs.write.put_decimal as put-decimal'
 use Rattle.leaves.proofs.write.put_sheet as put-sheet'
 use Rattle.leaves.proofs.write.put_ratio as put-ratio'
+use Rattle.leaves.specs.declared.Decimal.{Decimal}
+use Rattle.leaves.specs.declared.NoRoom.{NoRoom}
+use Rattle.leaves.specs.declared.Scale.{Scale}
+use Rattle.leaves.specs.declared.SheetSize.{SheetSize}
 
 -- what a contract's callers learn (C), of the arguments, the answer and the lent memory on return, leaves one thing to be seen
 abbrev pub One : {n : ℕ} (ps : List (ParamKind n)) (r : ResultKind n) → Out n ps r → {A : Type 0} → ((κs : Lfts n) → (res_t r κs).Denot → AtExit (ended_of n ps r) κs → A) → Type 0
@@ -131,37 +131,37 @@ either-code : One either'.Kinds.ps either'.Kinds.r either'.Reads.Learnt (λ κs 
 either-code κs x r₁ r₂ e₁ e₂ = either_unique x.0 x.1.0 r₁ r₂
 
 -- ── numbers ──
-pub count_unique : (s : List ℕ) (r₁ r₂ : Count) → r₁ ≡ count_of (read_count 9 s) → r₂ ≡ count_of (read_count 9 s) → r₁ ≡ r₂
+pub count_unique : (s : List ℕ) (r₁ r₂ : Option ℕ) → r₁ ≡ read_count 9 s → r₂ ≡ read_count 9 s → r₁ ≡ r₂
 count_unique s r₁ r₂ c₁ c₂ = c₁ ∙ sym c₂
 
 count_code : One count'.Kinds.ps count'.Kinds.r count'.Reads.Learnt (λ κs r e. r)
 count_code κs x r₁ r₂ e₁ e₂ = count_unique x.0.now r₁ r₂
 
-pub serial_unique : (s : List ℕ) (r₁ r₂ : Count) → r₁ ≡ count_of (read_count 10 s) → r₂ ≡ count_of (read_count 10 s) → r₁ ≡ r₂
+pub serial_unique : (s : List ℕ) (r₁ r₂ : Option ℕ) → r₁ ≡ read_count 10 s → r₂ ≡ read_count 10 s → r₁ ≡ r₂
 serial_unique s r₁ r₂ c₁ c₂ = c₁ ∙ sym c₂
 
 serial-code : One serial'.Kinds.ps serial'.Kinds.r serial'.Reads.Learnt (λ κs r e. r)
 serial-code κs x r₁ r₂ e₁ e₂ = serial_unique x.0.now r₁ r₂
 
-pub fixed_unique : (s : List ℕ) (w : ℕ) (r₁ r₂ : Count) → r₁ ≡ count_of (read_up_to_eight w s) → r₂ ≡ count_of (read_up_to_eight w s) → r₁ ≡ r₂
+pub fixed_unique : (s : List ℕ) (w : ℕ) (r₁ r₂ : Option ℕ) → r₁ ≡ read_up_to_eight w s → r₂ ≡ read_up_to_eight w s → r₁ ≡ r₂
 fixed_unique s w r₁ r₂ c₁ c₂ = c₁ ∙ sym c₂
 
 fixed-code : One fixed'.Kinds.ps fixed'.Kinds.r fixed'.Reads.Learnt (λ κs r e. r)
 fixed-code κs x r₁ r₂ e₁ e₂ = fixed_unique x.0.now x.1.0 r₁ r₂
 
-pub day_unique : (s : List ℕ) (r₁ r₂ : Count) → r₁ ≡ count_of (read_day s) → r₂ ≡ count_of (read_day s) → r₁ ≡ r₂
+pub day_unique : (s : List ℕ) (r₁ r₂ : Option ℕ) → r₁ ≡ read_day s → r₂ ≡ read_day s → r₁ ≡ r₂
 day_unique s r₁ r₂ c₁ c₂ = c₁ ∙ sym c₂
 
 day-code : One day'.Kinds.ps day'.Kinds.r day'.Reads.Learnt (λ κs r e. r)
 day-code κs x r₁ r₂ e₁ e₂ = day_unique x.0.now r₁ r₂
 
-pub clock_unique : (s : List ℕ) (r₁ r₂ : Count) → r₁ ≡ count_of (read_clock s) → r₂ ≡ count_of (read_clock s) → r₁ ≡ r₂
+pub clock_unique : (s : List ℕ) (r₁ r₂ : Option ℕ) → r₁ ≡ read_clock s → r₂ ≡ read_clock s → r₁ ≡ r₂
 clock_unique s r₁ r₂ c₁ c₂ = c₁ ∙ sym c₂
 
 clock-code : One clock'.Kinds.ps clock'.Kinds.r clock'.Reads.Learnt (λ κs r e. r)
 clock-code κs x r₁ r₂ e₁ e₂ = clock_unique x.0.now r₁ r₂
 
-pub decimal_unique : (s : List ℕ) (r₁ r₂ : Reading) → r₁ ≡ reading_of (read_decimal s) → r₂ ≡ reading_of (read_decimal s) → r₁ ≡ r₂
+pub decimal_unique : (s : List ℕ) (r₁ r₂ : Option Decimal) → r₁ ≡ reading_of (read_decimal s) → r₂ ≡ reading_of (read_decimal s) → r₁ ≡ r₂
 decimal_unique s r₁ r₂ c₁ c₂ = c₁ ∙ sym c₂
 
 decimal-code : One decimal'.Kinds.ps decimal'.Kinds.r decimal'.Reads.Learnt (λ κs r e. r)
@@ -175,13 +175,13 @@ decimal-piece-code : One decimal-piece'.Kinds.ps decimal-piece'.Kinds.r decimal-
 decimal-piece-code κs x r₁ r₂ e₁ e₂ = decimal-piece_unique x.0.now r₁ r₂
 
 -- ── sheets ──
-pub sheet_unique : (s : List ℕ) (r₁ r₂ : Sheet) → r₁ ≡ sheet_of (find_sheet s sheets) → r₂ ≡ sheet_of (find_sheet s sheets) → r₁ ≡ r₂
+pub sheet_unique : (s : List ℕ) (r₁ r₂ : Option SheetSize) → r₁ ≡ sheet_of (find_sheet s sheets) → r₂ ≡ sheet_of (find_sheet s sheets) → r₁ ≡ r₂
 sheet_unique s r₁ r₂ c₁ c₂ = c₁ ∙ sym c₂
 
 sheet-code : One sheet'.Kinds.ps sheet'.Kinds.r sheet'.Reads.Learnt (λ κs r e. r)
 sheet-code κs x r₁ r₂ e₁ e₂ = sheet_unique x.0.now r₁ r₂
 
-pub ratio_unique : (s : List ℕ) (r₁ r₂ : Ratio) → r₁ ≡ ratio_of (read_ratio s) → r₂ ≡ ratio_of (read_ratio s) → r₁ ≡ r₂
+pub ratio_unique : (s : List ℕ) (r₁ r₂ : Result Scale ℕ) → r₁ ≡ ratio_of (read_ratio s) → r₂ ≡ ratio_of (read_ratio s) → r₁ ≡ r₂
 ratio_unique s r₁ r₂ c₁ c₂ = c₁ ∙ sym c₂
 
 ratio-code : One ratio'.Kinds.ps ratio'.Kinds.r ratio'.Reads.Learnt (λ κs r e. r)
@@ -201,7 +201,7 @@ fits-code : One fits'.Kinds.ps fits'.Kinds.r fits'.Reads.Learnt (λ κs r e. r)
 fits-code κs x r₁ r₂ e₁ e₂ = fits_unique x.0.now x.1.0 x.1.1.0 r₁ r₂
 
 -- ── write: the answer, and the output on return ──
-both-put : {text out out₁ out₂ : List ℕ} {r₁ r₂ : Wrote} → Puts text out out₁ r₁ → Puts text out out₂ r₂ → (r₁ ≡ r₂) × (out₁ ≡ out₂)
+both-put : {text out out₁ out₂ : List ℕ} {r₁ r₂ : Result ℕ NoRoom} → Puts text out out₁ r₁ → Puts text out out₂ r₂ → (r₁ ≡ r₂) × (out₁ ≡ out₂)
 both-put c₁ c₂ = (c₁.answer ∙ sym c₂.answer, c₁.memory ∙ sym c₂.memory)
 
 pub clear_unique : (out out₁ out₂ : List ℕ) → out₁ ≡ replicate (length out) 0 → out₂ ≡ replicate (length out) 0 → out₁ ≡ out₂
@@ -210,44 +210,44 @@ clear_unique out out₁ out₂ c₁ c₂ = c₁ ∙ sym c₂
 clear-code : One clear'.Kinds.ps clear'.Kinds.r clear'.Reads.Learnt {A = List ℕ} (λ κs r e. e.0.now)
 clear-code κs x r₁ r₂ e₁ e₂ = clear_unique x.0.now e₁.0.now e₂.0.now
 
-pub put_unique : (text out out₁ out₂ : List ℕ) (r₁ r₂ : Wrote) → Puts text out out₁ r₁ → Puts text out out₂ r₂ → (r₁ ≡ r₂) × (out₁ ≡ out₂)
+pub put_unique : (text out out₁ out₂ : List ℕ) (r₁ r₂ : Result ℕ NoRoom) → Puts text out out₁ r₁ → Puts text out out₂ r₂ → (r₁ ≡ r₂) × (out₁ ≡ out₂)
 put_unique text out out₁ out₂ r₁ r₂ c₁ c₂ = both-put c₁ c₂
 
-put-code : One put'.Kinds.ps put'.Kinds.r put'.Reads.Learnt {A = Wrote × List ℕ} (λ κs r e. (r, e.1.0.now))
+put-code : One put'.Kinds.ps put'.Kinds.r put'.Reads.Learnt {A = Result ℕ NoRoom × List ℕ} (λ κs r e. (r, e.1.0.now))
 put-code κs x r₁ r₂ e₁ e₂ c₁ c₂ = paired (put_unique x.0.now x.1.0.now e₁.1.0.now e₂.1.0.now r₁ r₂ c₁ c₂)
 
-pub put-count_unique : (n : ℕ) (out out₁ out₂ : List ℕ) (r₁ r₂ : Wrote) → Puts (show_count 20 n) out out₁ r₁ → Puts (show_count 20 n) out out₂ r₂ → (r₁ ≡ r₂) × (out₁ ≡ out₂)
+pub put-count_unique : (n : ℕ) (out out₁ out₂ : List ℕ) (r₁ r₂ : Result ℕ NoRoom) → Puts (show_count 20 n) out out₁ r₁ → Puts (show_count 20 n) out out₂ r₂ → (r₁ ≡ r₂) × (out₁ ≡ out₂)
 put-count_unique n out out₁ out₂ r₁ r₂ c₁ c₂ = both-put c₁ c₂
 
-put-count-code : One put-count'.Kinds.ps put-count'.Kinds.r put-count'.Reads.Learnt {A = Wrote × List ℕ} (λ κs r e. (r, e.1.0.now))
+put-count-code : One put-count'.Kinds.ps put-count'.Kinds.r put-count'.Reads.Learnt {A = Result ℕ NoRoom × List ℕ} (λ κs r e. (r, e.1.0.now))
 put-count-code κs x r₁ r₂ e₁ e₂ c₁ c₂ = paired (put-count_unique x.0 x.1.0.now e₁.1.0.now e₂.1.0.now r₁ r₂ c₁ c₂)
 
-pub put-fixed_unique : (n w : ℕ) (out out₁ out₂ : List ℕ) (r₁ r₂ : Wrote) → Puts (fixed (width w) n) out out₁ r₁ → Puts (fixed (width w) n) out out₂ r₂ → (r₁ ≡ r₂) × (out₁ ≡ out₂)
+pub put-fixed_unique : (n w : ℕ) (out out₁ out₂ : List ℕ) (r₁ r₂ : Result ℕ NoRoom) → Puts (fixed (width w) n) out out₁ r₁ → Puts (fixed (width w) n) out out₂ r₂ → (r₁ ≡ r₂) × (out₁ ≡ out₂)
 put-fixed_unique n w out out₁ out₂ r₁ r₂ c₁ c₂ = both-put c₁ c₂
 
-put-fixed-code : One put-fixed'.Kinds.ps put-fixed'.Kinds.r put-fixed'.Reads.Learnt {A = Wrote × List ℕ} (λ κs r e. (r, e.1.1.0.now))
+put-fixed-code : One put-fixed'.Kinds.ps put-fixed'.Kinds.r put-fixed'.Reads.Learnt {A = Result ℕ NoRoom × List ℕ} (λ κs r e. (r, e.1.1.0.now))
 put-fixed-code κs x r₁ r₂ e₁ e₂ c₁ c₂ = paired (put-fixed_unique x.0 x.1.0 x.1.1.0.now e₁.1.1.0.now e₂.1.1.0.now r₁ r₂ c₁ c₂)
 
-pub put-size_unique : (m : ℕ) (out out₁ out₂ : List ℕ) (r₁ r₂ : Wrote) → Puts (show_size m) out out₁ r₁ → Puts (show_size m) out out₂ r₂ → (r₁ ≡ r₂) × (out₁ ≡ out₂)
+pub put-size_unique : (m : ℕ) (out out₁ out₂ : List ℕ) (r₁ r₂ : Result ℕ NoRoom) → Puts (show_size m) out out₁ r₁ → Puts (show_size m) out out₂ r₂ → (r₁ ≡ r₂) × (out₁ ≡ out₂)
 put-size_unique m out out₁ out₂ r₁ r₂ c₁ c₂ = both-put c₁ c₂
 
-put-size-code : One put-size'.Kinds.ps put-size'.Kinds.r put-size'.Reads.Learnt {A = Wrote × List ℕ} (λ κs r e. (r, e.1.0.now))
+put-size-code : One put-size'.Kinds.ps put-size'.Kinds.r put-size'.Reads.Learnt {A = Result ℕ NoRoom × List ℕ} (λ κs r e. (r, e.1.0.now))
 put-size-code κs x r₁ r₂ e₁ e₂ c₁ c₂ = paired (put-size_unique x.0 x.1.0.now e₁.1.0.now e₂.1.0.now r₁ r₂ c₁ c₂)
 
-pub put-decimal_unique : (z : ℤ) (out out₁ out₂ : List ℕ) (r₁ r₂ : Wrote) → Puts (show_decimal z) out out₁ r₁ → Puts (show_decimal z) out out₂ r₂ → (r₁ ≡ r₂) × (out₁ ≡ out₂)
+pub put-decimal_unique : (z : ℤ) (out out₁ out₂ : List ℕ) (r₁ r₂ : Result ℕ NoRoom) → Puts (show_decimal z) out out₁ r₁ → Puts (show_decimal z) out out₂ r₂ → (r₁ ≡ r₂) × (out₁ ≡ out₂)
 put-decimal_unique z out out₁ out₂ r₁ r₂ c₁ c₂ = both-put c₁ c₂
 
-put-decimal-code : One put-decimal'.Kinds.ps put-decimal'.Kinds.r put-decimal'.Reads.Learnt {A = Wrote × List ℕ} (λ κs r e. (r, e.1.0.now))
+put-decimal-code : One put-decimal'.Kinds.ps put-decimal'.Kinds.r put-decimal'.Reads.Learnt {A = Result ℕ NoRoom × List ℕ} (λ κs r e. (r, e.1.0.now))
 put-decimal-code κs x r₁ r₂ e₁ e₂ c₁ c₂ = paired (put-decimal_unique x.0 x.1.0.now e₁.1.0.now e₂.1.0.now r₁ r₂ c₁ c₂)
 
-pub put-sheet_unique : (n a : ℕ) (out out₁ out₂ : List ℕ) (r₁ r₂ : Wrote) → Puts (show_sheet n a) out out₁ r₁ → Puts (show_sheet n a) out out₂ r₂ → (r₁ ≡ r₂) × (out₁ ≡ out₂)
+pub put-sheet_unique : (n a : ℕ) (out out₁ out₂ : List ℕ) (r₁ r₂ : Result ℕ NoRoom) → Puts (show_sheet n a) out out₁ r₁ → Puts (show_sheet n a) out out₂ r₂ → (r₁ ≡ r₂) × (out₁ ≡ out₂)
 put-sheet_unique n a out out₁ out₂ r₁ r₂ c₁ c₂ = both-put c₁ c₂
 
-put-sheet-code : One put-sheet'.Kinds.ps put-sheet'.Kinds.r put-sheet'.Reads.Learnt {A = Wrote × List ℕ} (λ κs r e. (r, e.1.1.0.now))
+put-sheet-code : One put-sheet'.Kinds.ps put-sheet'.Kinds.r put-sheet'.Reads.Learnt {A = Result ℕ NoRoom × List ℕ} (λ κs r e. (r, e.1.1.0.now))
 put-sheet-code κs x r₁ r₂ e₁ e₂ c₁ c₂ = paired (put-sheet_unique x.0 x.1.0 x.1.1.0.now e₁.1.1.0.now e₂.1.1.0.now r₁ r₂ c₁ c₂)
 
-pub put-ratio_unique : (p q : ℕ) (out out₁ out₂ : List ℕ) (r₁ r₂ : Wrote) → Puts (show_ratio p q) out out₁ r₁ → Puts (show_ratio p q) out out₂ r₂ → (r₁ ≡ r₂) × (out₁ ≡ out₂)
+pub put-ratio_unique : (p q : ℕ) (out out₁ out₂ : List ℕ) (r₁ r₂ : Result ℕ NoRoom) → Puts (show_ratio p q) out out₁ r₁ → Puts (show_ratio p q) out out₂ r₂ → (r₁ ≡ r₂) × (out₁ ≡ out₂)
 put-ratio_unique p q out out₁ out₂ r₁ r₂ c₁ c₂ = both-put c₁ c₂
 
-put-ratio-code : One put-ratio'.Kinds.ps put-ratio'.Kinds.r put-ratio'.Reads.Learnt {A = Wrote × List ℕ} (λ κs r e. (r, e.1.1.0.now))
+put-ratio-code : One put-ratio'.Kinds.ps put-ratio'.Kinds.r put-ratio'.Reads.Learnt {A = Result ℕ NoRoom × List ℕ} (λ κs r e. (r, e.1.1.0.now))
 put-ratio-code κs x r₁ r₂ e₁ e₂ c₁ c₂ = paired (put-ratio_unique x.0 x.1.0 x.1.1.0.now e₁.1.1.0.now e₂.1.1.0.now r₁ r₂ c₁ c₂)

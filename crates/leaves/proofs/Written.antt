@@ -1,4 +1,5 @@
 -- What the writers do: a text copied byte by byte, digits laid from the last to the first, needless zeros passed over.
+use Rattle.std.specs.Prelude.{Result, Ok, Err}
 use Prim.Native.Nat.{ℕ, zero, suc, ◌+◌, ◌-◌, ◌/◌, ◌%◌, ◌<◌, ◌≤◌}
 use mathlib.Core.Path.{◌≡◌, refl, ap, sym, subst, ◌∙◌}
 use mathlib.Core.List.{List, [], ◌∷◌, ◌++◌, append-nil, append_assoc}
@@ -11,19 +12,19 @@ use lib.Seq.{take-suc, take-append-add, drop-append-add, drop-append-le, take_at
 use borrow.Author.Tests.{le-leb, lt-leb, eq-eqb, ne_eqb, leb-true, leb-false}
 use lib.Dec.{leb}
 use borrow.Rule.Slice.PartMut.{put_mid, put_same, same_len_mid}
-use Rattle.leaves.specs.declared.Wrote.{Wrote}
 use Rattle.rules.specs.Numbers.{fixed_onto, fixed, trim, end_onto, trim_end, show_count, show_size}
 use Rattle.rules.specs.Values.{show_sheet, show_ratio}
 use Rattle.leaves.specs.Writing.{Puts, laid_size}
-use Rattle.leaves.specs.declared.Wrote.TheVariants as W
 use Rattle.leaves.proofs.Scan.{at, rest_all}
+use Rattle.leaves.specs.declared.NoRoom.{NoRoom}
+use Rattle.leaves.specs.NoRoom.{no_room}
 
 -- ── the sentence of a writer, by the text's length ──
 module _ (text before : List ℕ) (n : ℕ) where
-  pub fits : length text ≡ n → n ≤ length before → (after : List ℕ) → after ≡ text ++ drop n before → Puts text before after (W.Bytes n)
+  pub fits : length text ≡ n → n ≤ length before → (after : List ℕ) → after ≡ text ++ drop n before → Puts text before after (Ok n)
   fits e h after m = record { answer = rw (e, le-leb n (length before) h); memory = m ∙ sym (rw (e, le-leb n (length before) h)) }
 
-  pub full : length text ≡ n → length before < n → Puts text before before W.Full
+  pub full : length text ≡ n → length before < n → Puts text before before (Err no_room)
   full e h = record { answer = rw (e, lt-leb n (length before) h); memory = sym (rw (e, lt-leb n (length before) h)) }
 
 -- ── a copy ──
@@ -157,22 +158,22 @@ module _ (m : ℕ) where
         ∙ rw (d, t, ne_eqb (m % 10000) 0 e)
 
 -- ── a byte before a text that is there or found no room ──
-pub full-bytes : {P : Type 0} {n : ℕ} → W.Full ≡ W.Bytes n → P
+pub full-bytes : {P : Type 0} {n : ℕ} → (Err no_room) ≡ Ok n → P
 full-bytes e = absurd (let z : ◌≡◌ {A = ℕ} 0 1 = cc in omega arith)
 
 module _ (text s after : List ℕ) where
-  pub was-full : Puts text s after W.Full → (length s < length text) × (after ≡ s)
+  pub was-full : Puts text s after (Err no_room) → (length s < length text) × (after ≡ s)
   was-full p = go (leb (length text) (length s)) refl p.answer p.memory
     where
-      go : (t : Bool) → leb (length text) (length s) ≡ t → W.Full ≡ cond t (W.Bytes (length text)) W.Full → after ≡ cond t (text ++ drop (length text) s) s
+      go : (t : Bool) → leb (length text) (length s) ≡ t → (Err no_room) ≡ cond t (Ok (length text)) (Err no_room) → after ≡ cond t (text ++ drop (length text) s) s
           → (length s < length text) × (after ≡ s)
       go true q a m = full-bytes a
       go false q a m = (leb-false (length text) (length s) q, m)
 
-  pub was-bytes : (n : ℕ) → Puts text s after (W.Bytes n) → (length text ≡ n) × (length text ≤ length s) × (after ≡ text ++ drop (length text) s)
+  pub was-bytes : (n : ℕ) → Puts text s after (Ok n) → (length text ≡ n) × (length text ≤ length s) × (after ≡ text ++ drop (length text) s)
   was-bytes n p = go (leb (length text) (length s)) refl p.answer p.memory
     where
-      go : (t : Bool) → leb (length text) (length s) ≡ t → W.Bytes n ≡ cond t (W.Bytes (length text)) W.Full → after ≡ cond t (text ++ drop (length text) s) s
+      go : (t : Bool) → leb (length text) (length s) ≡ t → Ok n ≡ cond t (Ok (length text)) (Err no_room) → after ≡ cond t (text ++ drop (length text) s) s
           → (length text ≡ n) × (length text ≤ length s) × (after ≡ text ++ drop (length text) s)
       go true q a m = (let e : n ≡ length text = cc in sym e, leb-true (length text) (length s) q, m)
       go false q a m = full-bytes (sym a)
@@ -185,29 +186,29 @@ put_rest b s after =
     let e : suc (length s) - 1 ≡ length s = omega arith in
     ap (λ (k : ℕ). b ∷ (after ++ drop k s)) e ∙ ap (λ (l : List ℕ). b ∷ (after ++ l)) (drop-length s) ∙ ap (λ (l : List ℕ). b ∷ l) (append-nil after)
 
-module _ (x : ℕ) (text after : List ℕ) (r : Wrote) where
-  pub behind-full : (before : List ℕ) → (length before ≡ 0 → ⊥) → Puts text (take (length before - 1) (drop 1 before)) after r → r ≡ W.Full
-      → Puts (x ∷ text) before (put_mid 1 (length before - 1) before after) W.Full
+module _ (x : ℕ) (text after : List ℕ) (r : Result ℕ NoRoom) where
+  pub behind-full : (before : List ℕ) → (length before ≡ 0 → ⊥) → Puts text (take (length before - 1) (drop 1 before)) after r → r ≡ (Err no_room)
+      → Puts (x ∷ text) before (put_mid 1 (length before - 1) before after) (Err no_room)
   behind-full [] h p e = absurd (h refl)
   behind-full (b ∷ s) h p e =
       let w = was-full text s after (rw (rest_of_lem b s, e) at p) in
       rw (put_rest b s after, w.1) (full (x ∷ text) (b ∷ s) (suc (length text)) refl (omega (arith, w.0)))
 
-  pub behind-room : (before : List ℕ) → (length before ≡ 0 → ⊥) → (n : ℕ) → Puts text (take (length before - 1) (drop 1 before)) after r → r ≡ W.Bytes n
+  pub behind-room : (before : List ℕ) → (length before ≡ 0 → ⊥) → (n : ℕ) → Puts text (take (length before - 1) (drop 1 before)) after r → r ≡ Ok n
       → n + 1 ≤ length before
   behind-room [] h n p e = absurd (h refl)
   behind-room (b ∷ s) h n p e = let w = was-bytes text s after n (rw (rest_of_lem b s, e) at p) in omega (arith, w.0, w.1)
 
-  pub behind-bytes : (before : List ℕ) → (length before ≡ 0 → ⊥) → (n : ℕ) → Puts text (take (length before - 1) (drop 1 before)) after r → r ≡ W.Bytes n
-      → Puts (x ∷ text) before (set (put_mid 1 (length before - 1) before after) 0 x) (W.Bytes (n + 1))
+  pub behind-bytes : (before : List ℕ) → (length before ≡ 0 → ⊥) → (n : ℕ) → Puts text (take (length before - 1) (drop 1 before)) after r → r ≡ Ok n
+      → Puts (x ∷ text) before (set (put_mid 1 (length before - 1) before after) 0 x) (Ok (n + 1))
   behind-bytes [] h n p e = absurd (h refl)
   behind-bytes (b ∷ s) h n p e =
       let w = was-bytes text s after n (rw (rest_of_lem b s, e) at p) in
       let l : n + 1 ≡ suc (length text) = omega (arith, w.0) in
-      subst (λ (q : List ℕ). Puts (x ∷ text) (b ∷ s) (set q 0 x) (W.Bytes (n + 1))) (sym (put_rest b s after)) (rw l (fits (x ∷ text) (b ∷ s) (suc (length text)) refl (omega (arith, w.1)) (x ∷ after) (ap (λ (q : List ℕ). x ∷ q) w.2)))
+      subst (λ (q : List ℕ). Puts (x ∷ text) (b ∷ s) (set q 0 x) (Ok (n + 1))) (sym (put_rest b s after)) (rw l (fits (x ∷ text) (b ∷ s) (suc (length text)) refl (omega (arith, w.1)) (x ∷ after) (ap (λ (q : List ℕ). x ∷ q) w.2)))
 
 -- ── one text behind another ──
-module _ (a b before after : List ℕ) (r : Wrote) (h : length a ≤ length before) (p : Puts b (take (length before - length a) (drop (length a) before)) after r) where
+module _ (a b before after : List ℕ) (r : Result ℕ NoRoom) (h : length a ≤ length before) (p : Puts b (take (length before - length a) (drop (length a) before)) after r) where
   rest_put : Puts b (drop (length a) before) after r
   rest_put = rw (rest_all (length a) before) at p
 
@@ -215,12 +216,12 @@ module _ (a b before after : List ℕ) (r : Wrote) (h : length a ≤ length befo
   part-back =
       ap (put_mid (length a) (length before - length a) before) (sym (rest_all (length a) before)) ∙ put_same (length a) (length before - length a) before
 
-  pub both-full : r ≡ W.Full → Puts (a ++ b) before (put_mid (length a) (length before - length a) before after) W.Full
+  pub both-full : r ≡ (Err no_room) → Puts (a ++ b) before (put_mid (length a) (length before - length a) before after) (Err no_room)
   both-full e =
       let w = was-full b (drop (length a) before) after (rw e at rest_put) in
       rw (w.1, part-back) (full (a ++ b) before (length a + length b) (length-append a b) (omega (arith, w.0, length-drop (length a) before)))
 
-  module _ (m : ℕ) (e : r ≡ W.Bytes m) where
+  module _ (m : ℕ) (e : r ≡ Ok m) where
     both-parts : (length b ≡ m) × (length b ≤ length (drop (length a) before)) × (after ≡ b ++ drop (length b) (drop (length a) before))
     both-parts = was-bytes b (drop (length a) before) after m (rw e at rest_put)
 
@@ -238,7 +239,7 @@ module _ (a b before after : List ℕ) (r : Wrote) (h : length a ≤ length befo
         drop_at (take (length a) before) (after ++ drop (length before - length a) (drop (length a) before)) (length a) (length-take-le (length a) before h)
         ∙ ap (λ (l : List ℕ). after ++ l) (drop_of_length-le (drop (length a) before) {i = length before - length a} (omega (arith, length-drop (length a) before))) ∙ append-nil after
 
-    pub both_bytes : (last : List ℕ) (q : Wrote) → Puts a (put_mid (length a) (length before - length a) before after) last q → Puts (a ++ b) before last (W.Bytes (length a + m))
+    pub both_bytes : (last : List ℕ) (q : Result ℕ NoRoom) → Puts a (put_mid (length a) (length before - length a) before after) last q → Puts (a ++ b) before last (Ok (length a + m))
     both_bytes last q f =
         let long : leb (length a) (length (put_mid (length a) (length before - length a) before after)) ≡ true = rw whole_length (le-leb (length a) (length before) h) in
         let front : last ≡ a ++ after = f.memory ∙ rw long (ap (λ (l : List ℕ). a ++ l) behind-first) in

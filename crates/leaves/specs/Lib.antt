@@ -4,3 +4,4 @@ pub mod Pieces
 pub mod Drawing
 pub mod Texts
 pub mod Writing
+pub mod NoRoom

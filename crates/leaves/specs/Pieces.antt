@@ -1,14 +1,12 @@
 -- A decimal before a comma, and what its parts are read as on the way.
-use Rattle.std.specs.Prelude.{ℕ, ◌+◌, ◌-◌, ◌<◌, ◌≤◌, ◌≡◌, true, false, cond, List, [], ◌∷◌, eqb, length, get_or, drop, take}
-use Rattle.std.proofs.Math.Option.{Option, none, some}
+use Rattle.std.specs.Prelude.{ℕ, ◌+◌, ◌-◌, ◌<◌, ◌≤◌, ◌≡◌, true, false, cond, List, [], ◌∷◌, eqb, length, get_or, drop, take, Option, Some, None}
 use Rattle.rules.specs.Base.{all}
 use Rattle.rules.specs.Numbers.{is_digit, value, read_size, read_decimal}
 use Rattle.leaves.specs.Bytes.{up_to}
 use Rattle.leaves.specs.Readings.{reading_of}
 use Rattle.leaves.specs.declared.DecimalPiece.{DecimalPiece}
 use Rattle.leaves.specs.declared.pieces.RunEnd.{RunEnd}
-use Rattle.leaves.specs.declared.pieces.SizePiece.{SizePiece}
-use Rattle.leaves.specs.declared.pieces.SizePiece.TheVariants as S
+use Rattle.leaves.specs.declared.pieces.SizeEnd.{SizeEnd}
 
 unfoldable pub decimal_piece : List ℕ → DecimalPiece
 decimal_piece s = record { reading = reading_of (read_decimal (up_to 44 s)); end = length (up_to 44 s) }
@@ -31,10 +29,10 @@ pub record RunRead (s : List ℕ) (from most : ℕ) (r : RunEnd) : Type 0 where
   pub stop : r.end < from + most → is_digit (get_or s r.end 0) ≡ false
 
 -- a size that ends here, if it is one
-abbrev pub size_at : ℕ → Option ℕ → SizePiece
-size_at e none = S.Not
-size_at e (some v) = S.Is (record { value = v; end = e })
+abbrev pub size_at : ℕ → Option ℕ → Option SizeEnd
+size_at e None = None
+size_at e (Some v) = Some (record { value = v; end = e })
 
 -- the size from a place to the next comma
-unfoldable pub size_piece : ℕ → List ℕ → SizePiece
+unfoldable pub size_piece : ℕ → List ℕ → Option SizeEnd
 size_piece from s = size_at (from + length (up_to 44 (drop from s))) (read_size (up_to 44 (drop from s)))

@@ -1,63 +1,63 @@
 ghost use Rattle.std.specs.Prelude.{◌≡◌, ◌≤◌, length};
 ghost use Rattle.rules.specs.Numbers.{read_count, is_day, is_clock, read_decimal};
-ghost use Rattle.leaves.specs.Readings.{count_of, reading_of, run_from, read_run, read_up_to_eight, read_day, read_clock};
+ghost use Rattle.leaves.specs.Readings.{reading_of, run_from, read_run, read_up_to_eight, read_day, read_clock};
 
+use crate::Decimal;
 use crate::bytes::{digit, within};
 use crate::pieces::decimal_piece;
-use crate::{Count, Reading};
 
 // The number that the digits of s write: at most ten, so that it fits.
-fn digits_from(s: &[u8]) -> Count
+fn digits_from(s: &[u8]) -> Option<u64>
     requires { length s.now ≤ 10 }
-    ensures { result ≡ count_of (run_from 0 s.now) }
+    ensures { result ≡ run_from 0 s.now }
 {
     let mut v: u64 = 0;
     let mut i = 0;
     while i < s.len() {
         let b = s[i];
         if !digit(b) {
-            return Count::Not;
+            return None;
         }
         v = v * 10 + (b as u64 - 48);
         i += 1;
     }
-    Count::Is(v)
+    Some(v)
 }
 
 // least to most digits and nothing else
-fn digits(s: &[u8], least: usize, most: usize) -> Count
+fn digits(s: &[u8], least: usize, most: usize) -> Option<u64>
     requires { most ≤ 10 }
-    ensures { result ≡ count_of (read_run least most s.now) }
+    ensures { result ≡ read_run least most s.now }
 {
     if s.len() < least {
-        return Count::Not;
+        return None;
     }
     if most < s.len() {
-        return Count::Not;
+        return None;
     }
     digits_from(s)
 }
 
 // A count: 1 to 9 digits.
-pub fn count(s: &[u8]) -> Count
-    ensures { result ≡ count_of (read_count 9 s.now) }
+pub fn count(s: &[u8]) -> Option<u64>
+    ensures { result ≡ read_count 9 s.now }
 {
     digits(s, 1, 9)
 }
 
 // A serial number: 1 to 10 digits.
-pub fn serial(s: &[u8]) -> Count
-    ensures { result ≡ count_of (read_count 10 s.now) }
+pub fn serial(s: &[u8]) -> Option<u64>
+    ensures { result ≡ read_count 10 s.now }
 {
     digits(s, 1, 10)
 }
 
 // Exactly w digits. Document 01 asks for no more than eight: a greater w reads nothing.
-pub fn fixed(s: &[u8], w: u8) -> Count
-    ensures { result ≡ count_of (read_up_to_eight w s.now) }
+pub fn fixed(s: &[u8], w: u8) -> Option<u64>
+    ensures { result ≡ read_up_to_eight w s.now }
 {
     if 8 < w {
-        return Count::Not;
+        return None;
     }
     digits(s, w as usize, w as usize)
 }
@@ -86,40 +86,40 @@ fn is_clock(n: u64) -> bool
 }
 
 // A date: eight digits.
-pub fn day(s: &[u8]) -> Count
-    ensures { result ≡ count_of (read_day s.now) }
+pub fn day(s: &[u8]) -> Option<u64>
+    ensures { result ≡ read_day s.now }
 {
     let d = digits(s, 8, 8);
-    let Count::Is(n) = d else {
-        return Count::Not;
+    let Some(n) = d else {
+        return None;
     };
     if is_day(n) {
-        return Count::Is(n);
+        return Some(n);
     }
-    Count::Not
+    None
 }
 
 // A time: six digits.
-pub fn clock(s: &[u8]) -> Count
-    ensures { result ≡ count_of (read_clock s.now) }
+pub fn clock(s: &[u8]) -> Option<u64>
+    ensures { result ≡ read_clock s.now }
 {
     let d = digits(s, 6, 6);
-    let Count::Is(n) = d else {
-        return Count::Not;
+    let Some(n) = d else {
+        return None;
     };
     if is_clock(n) {
-        return Count::Is(n);
+        return Some(n);
     }
-    Count::Not
+    None
 }
 
 // A decimal: an optional `-`, 1 to 7 digits, optionally `.` and 1 to 4 digits.
-pub fn decimal(s: &[u8]) -> Reading
+pub fn decimal(s: &[u8]) -> Option<Decimal>
     ensures { result ≡ reading_of (read_decimal s.now) }
 {
     let p = decimal_piece(s);
     if p.end < s.len() {
-        return Reading::Not;
+        return None;
     }
     p.reading
 }

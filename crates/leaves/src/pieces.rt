@@ -5,7 +5,7 @@ ghost use Rattle.leaves.specs.Bytes.{up_to};
 ghost use Rattle.leaves.specs.Pieces.{decimal_piece, sign_length, size_piece, RunRead};
 
 use crate::bytes::{digit, find};
-use crate::{Decimal, DecimalPiece, Reading};
+use crate::{Decimal, DecimalPiece};
 
 // A run of digits: the number, and where it ends.
 #[derive(Clone, Copy)]
@@ -19,12 +19,6 @@ struct RunEnd {
 struct SizeEnd {
     value: u64,
     end: usize,
-}
-
-#[derive(Clone, Copy)]
-enum SizePiece {
-    Is(SizeEnd),
-    Not,
 }
 
 // where a run from at on ends at the latest
@@ -87,7 +81,7 @@ fn ends(s: &[u8], i: usize) -> bool
 }
 
 // The decimal without a sign that stands from at to a comma or the end.
-fn size_piece(s: &[u8], at: usize) -> SizePiece
+fn size_piece(s: &[u8], at: usize) -> Option<SizeEnd>
     requires { at ≤ length s.now }
     ensures { result ≡ size_piece at s.now }
 {
@@ -95,28 +89,28 @@ fn size_piece(s: &[u8], at: usize) -> SizePiece
     let v = whole.value;
     let i = whole.end;
     if i == at {
-        return SizePiece::Not;
+        return None;
     }
     if ends(s, i) {
-        return SizePiece::Is(SizeEnd {
+        return Some(SizeEnd {
             value: v * 10000,
             end: i,
         });
     }
     if s[i] != b'.' {
-        return SizePiece::Not;
+        return None;
     }
     let k = i + 1;
     let fraction = run(s, k, 4);
     let f = fraction.value;
     let j = fraction.end;
     if j == k {
-        return SizePiece::Not;
+        return None;
     }
     if !ends(s, j) {
-        return SizePiece::Not;
+        return None;
     }
-    SizePiece::Is(SizeEnd {
+    Some(SizeEnd {
         value: v * 10000 + f * unit(j - k),
         end: j,
     })
@@ -141,9 +135,9 @@ pub fn decimal_piece(s: &[u8]) -> DecimalPiece
 {
     let at = behind_sign(s);
     let size = size_piece(s, at);
-    let SizePiece::Is(p) = size else {
+    let Some(p) = size else {
         return DecimalPiece {
-            reading: Reading::Not,
+            reading: None,
             end: find(s, b','),
         };
     };
@@ -151,12 +145,12 @@ pub fn decimal_piece(s: &[u8]) -> DecimalPiece
     let e = p.end;
     if at == 1 {
         return DecimalPiece {
-            reading: Reading::Is(Decimal { value: -z }),
+            reading: Some(Decimal { value: -z }),
             end: e,
         };
     }
     DecimalPiece {
-        reading: Reading::Is(Decimal { value: z }),
+        reading: Some(Decimal { value: z }),
         end: e,
     }
 }

@@ -7,7 +7,7 @@ ghost use Rattle.leaves.specs.Drawing.{sheet_of, multiplier_in, plain_sheet, lar
 
 use crate::bytes::{find, within};
 use crate::numbers::count;
-use crate::{Count, Ratio, Scale, Sheet, SheetSize};
+use crate::{Scale, SheetSize};
 use rules::SHEET_MULTIPLIERS;
 
 // The text is n, without needless zeros: for n up to 99.
@@ -48,44 +48,44 @@ fn multiplier(s: &[u8]) -> u8
 }
 
 // A0 to A4, by the last byte
-fn plain(d: u8) -> Sheet
+fn plain(d: u8) -> Option<SheetSize>
     ensures { result ≡ plain_sheet d }
 {
     if within(48, 52, d as u64) {
-        return Sheet::Is(SheetSize {
+        return Some(SheetSize {
             multiplier: 1,
             number: d - 48,
         });
     }
-    Sheet::Not
+    None
 }
 
 // n then A0 or A1, by n and the last byte
-fn large(n: u8, d: u8) -> Sheet
+fn large(n: u8, d: u8) -> Option<SheetSize>
     ensures { result ≡ large_sheet n d }
 {
     if n == 0 {
-        return Sheet::Not;
+        return None;
     }
     if within(48, 49, d as u64) {
-        return Sheet::Is(SheetSize {
+        return Some(SheetSize {
             multiplier: n,
             number: d - 48,
         });
     }
-    Sheet::Not
+    None
 }
 
 // A0 to A4, or n then A0 or A1.
-pub fn sheet(s: &[u8]) -> Sheet
+pub fn sheet(s: &[u8]) -> Option<SheetSize>
     ensures { result ≡ sheet_of (find_sheet s.now sheets) }
 {
     if s.len() < 2 {
-        return Sheet::Not;
+        return None;
     }
     let e = s.len() - 2;
     if s[e] != b'A' {
-        return Sheet::Not;
+        return None;
     }
     let d = s[e + 1];
     if e == 0 {
@@ -95,45 +95,45 @@ pub fn sheet(s: &[u8]) -> Sheet
 }
 
 // p alone
-fn one_count(a: Count) -> Ratio
+fn one_count(a: Option<u64>) -> Result<Scale, u8>
     ensures { result ≡ one_count a }
 {
-    let Count::Is(p) = a else {
-        return Ratio::Refused(10);
+    let Some(p) = a else {
+        return Err(10);
     };
     if within(1, 99999, p) {
-        return Ratio::Is(Scale { p: p as u32, q: 1 });
+        return Ok(Scale { p: p as u32, q: 1 });
     }
-    Ratio::Refused(11)
+    Err(11)
 }
 
 // p and q
-fn two_counts(a: Count, b: Count) -> Ratio
+fn two_counts(a: Option<u64>, b: Option<u64>) -> Result<Scale, u8>
     ensures { result ≡ two_counts a b }
 {
-    let Count::Is(p) = a else {
-        return Ratio::Refused(10);
+    let Some(p) = a else {
+        return Err(10);
     };
-    let Count::Is(q) = b else {
-        return Ratio::Refused(10);
+    let Some(q) = b else {
+        return Err(10);
     };
     if !within(1, 99999, p) {
-        return Ratio::Refused(11);
+        return Err(11);
     }
     if !within(1, 99999, q) {
-        return Ratio::Refused(11);
+        return Err(11);
     }
     if p < q {
-        return Ratio::Is(Scale {
+        return Ok(Scale {
             p: p as u32,
             q: q as u32,
         });
     }
-    Ratio::Refused(11)
+    Err(11)
 }
 
 // A scale: p, or p/q with p < q; a number not written as said is 10, one that breaks the rule 11.
-pub fn ratio(s: &[u8]) -> Ratio
+pub fn ratio(s: &[u8]) -> Result<Scale, u8>
     ensures { result ≡ ratio_of (read_ratio s.now) }
 {
     let e = find(s, b'/');

@@ -3,7 +3,7 @@ ghost use Rattle.rules.specs.Numbers.{fixed, trim, trim_end, show_count, show_si
 ghost use Rattle.rules.specs.Values.{show_sheet, show_ratio};
 ghost use Rattle.leaves.specs.Writing.{Puts, width, laid_size};
 
-use crate::Wrote;
+use crate::NoRoom;
 
 // All zeros, whatever it held.
 pub fn clear(out: &mut [u8])
@@ -17,34 +17,34 @@ pub fn clear(out: &mut [u8])
 }
 
 // A text at the front of out, where it fits; where it does not, out stays as it is.
-pub fn put(text: &[u8], out: &mut [u8]) -> Wrote
+pub fn put(text: &[u8], out: &mut [u8]) -> Result<usize, NoRoom>
     ensures { Puts text.now out.old out.new result }
 {
     if out.len() < text.len() {
-        return Wrote::Full;
+        return Err(NoRoom);
     }
     let mut i = 0;
     while i < text.len() {
         out[i] = text[i];
         i += 1;
     }
-    Wrote::Bytes(i)
+    Ok(i)
 }
 
 // One text behind the other, where both fit. The second is written first, so that nothing is written where there is no room for both.
-fn put_both(first: &[u8], second: &[u8], out: &mut [u8]) -> Wrote
+fn put_both(first: &[u8], second: &[u8], out: &mut [u8]) -> Result<usize, NoRoom>
     ensures { Puts (first.now ++ second.now) out.old out.new result }
 {
     let n = first.len();
     if out.len() < n {
-        return Wrote::Full;
+        return Err(NoRoom);
     }
     let rest = put(second, &mut out[n..]);
-    let Wrote::Bytes(m) = rest else {
-        return Wrote::Full;
+    let Ok(m) = rest else {
+        return Err(NoRoom);
     };
-    put(first, out);
-    Wrote::Bytes(n + m)
+    let _ = put(first, out);
+    Ok(n + m)
 }
 
 // All of out as the last digits of n, from the last to the first.
@@ -75,7 +75,7 @@ fn needless(s: &[u8]) -> usize
 }
 
 // The digits of s without needless zeros in front.
-fn put_trimmed(s: &[u8], out: &mut [u8]) -> Wrote
+fn put_trimmed(s: &[u8], out: &mut [u8]) -> Result<usize, NoRoom>
     ensures { Puts (trim s.now) out.old out.new result }
 {
     let zeros = needless(s);
@@ -83,7 +83,7 @@ fn put_trimmed(s: &[u8], out: &mut [u8]) -> Wrote
 }
 
 // A count without needless zeros: twenty digits hold any u64.
-pub fn put_count(n: u64, out: &mut [u8]) -> Wrote
+pub fn put_count(n: u64, out: &mut [u8]) -> Result<usize, NoRoom>
     ensures { Puts (show_count 20 n) out.old out.new result }
 {
     let mut digits = [0u8; 20];
@@ -102,15 +102,15 @@ fn at_most_eight(w: u8) -> usize
 }
 
 // Exactly w digits. Document 01 asks for no more than eight: a greater w is as eight.
-pub fn put_fixed(n: u64, w: u8, out: &mut [u8]) -> Wrote
+pub fn put_fixed(n: u64, w: u8, out: &mut [u8]) -> Result<usize, NoRoom>
     ensures { Puts (fixed (width w) n) out.old out.new result }
 {
     let digits = at_most_eight(w);
     if out.len() < digits {
-        return Wrote::Full;
+        return Err(NoRoom);
     }
     fill_digits(n, &mut out[..digits]);
-    Wrote::Bytes(digits)
+    Ok(digits)
 }
 
 // How many of the digits s stay without the zeros at the end.
@@ -139,7 +139,7 @@ fn lay_size(m: u64) -> [u8; 13]
 }
 
 // A size in ten-thousandths without needless zeros, and without a point where nothing stands behind it.
-pub fn put_size(m: u64, out: &mut [u8]) -> Wrote
+pub fn put_size(m: u64, out: &mut [u8]) -> Result<usize, NoRoom>
     ensures { Puts (show_size m) out.old out.new result }
 {
     let text = lay_size(m);
@@ -152,22 +152,22 @@ pub fn put_size(m: u64, out: &mut [u8]) -> Wrote
 }
 
 // A size behind a `-`; the size is written first, so that nothing is written where there is no room for both.
-fn put_minus(m: u64, out: &mut [u8]) -> Wrote
+fn put_minus(m: u64, out: &mut [u8]) -> Result<usize, NoRoom>
     ensures { Puts (45 ∷ show_size m) out.old out.new result }
 {
     if out.len() == 0 {
-        return Wrote::Full;
+        return Err(NoRoom);
     }
     let size = put_size(m, &mut out[1..]);
-    let Wrote::Bytes(n) = size else {
-        return Wrote::Full;
+    let Ok(n) = size else {
+        return Err(NoRoom);
     };
     out[0] = b'-';
-    Wrote::Bytes(n + 1)
+    Ok(n + 1)
 }
 
 // A decimal without needless zeros. One is added before the sign is turned, for the least of all numbers.
-pub fn put_decimal(z: i64, out: &mut [u8]) -> Wrote
+pub fn put_decimal(z: i64, out: &mut [u8]) -> Result<usize, NoRoom>
     ensures { Puts (show_decimal z) out.old out.new result }
 {
     if z < 0 {
@@ -177,7 +177,7 @@ pub fn put_decimal(z: i64, out: &mut [u8]) -> Wrote
 }
 
 // A sheet: its n, if it is not 1, then `A` and its number.
-pub fn put_sheet(n: u64, a: u64, out: &mut [u8]) -> Wrote
+pub fn put_sheet(n: u64, a: u64, out: &mut [u8]) -> Result<usize, NoRoom>
     ensures { Puts (show_sheet n a) out.old out.new result }
 {
     let mut name = [b'A'; 2];
@@ -192,7 +192,7 @@ pub fn put_sheet(n: u64, a: u64, out: &mut [u8]) -> Wrote
 }
 
 // A scale: p, and `/` and q if q is not 1. The `/` takes the place before q's first needed digit.
-pub fn put_ratio(p: u64, q: u64, out: &mut [u8]) -> Wrote
+pub fn put_ratio(p: u64, q: u64, out: &mut [u8]) -> Result<usize, NoRoom>
     ensures { Puts (show_ratio p q) out.old out.new result }
 {
     let mut first = [0u8; 9];

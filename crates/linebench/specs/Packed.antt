@@ -1,9 +1,8 @@
 -- A look in one number.
-use Rattle.std.specs.Prelude.{ℕ, ◌+◌, ◌*◌}
+use Rattle.std.specs.Prelude.{ℕ, ◌+◌, ◌*◌, Option, Some, None}
 use Rattle.rules.specs.declared.LineForm.{LineForm}
 use Rattle.rules.specs.declared.LineForm.TheVariants as L
-use Rattle.lines.specs.declared.Look.{Look}
-use Rattle.lines.specs.declared.Look.TheVariants.{End, Line}
+use Rattle.lines.specs.declared.Seen.{Seen}
 
 abbrev pub kind_of : LineForm → ℕ
 kind_of L.Ignored = 0
@@ -13,6 +12,6 @@ kind_of (L.Opens o) = o.key.at
 kind_of (L.Equals q) = q.rest.at
 kind_of (L.Refused r) = r.number
 
-abbrev pub packed : Look → ℕ
-packed End = 0
-packed (Line f) = f.next * 4294967296 + kind_of f.form
+abbrev pub packed : Option Seen → ℕ
+packed None = 0
+packed (Some f) = f.next * 4294967296 + kind_of f.form

@@ -8,7 +8,6 @@ ghost use Rattle.lines.specs.LineLook.{look_in};
 ghost use Rattle.lines.specs.VolumePlaces.{layout_of};
 ghost use Rattle.linebench.specs.Packed.{kind_of, packed};
 
-use lines::Look;
 use lines::ends::first_unsound;
 use lines::forms::look;
 use lines::spool::volumes;
@@ -42,8 +41,8 @@ pub extern "C" fn linebench_look(body: &[u8], base: u32, at: u32, volume: u8, li
     ensures { result ≡ packed (look_in volume line base at body.now) }
 {
     match look(body, base, at, volume, line) {
-        Look::End => 0,
-        Look::Line(f) => {
+        None => 0,
+        Some(f) => {
             let form = f.form;
             f.next as u64 * 4294967296 + kind_of(form) as u64
         }

@@ -1,4 +1,5 @@
 -- Laws of one look at a line: the runs of its bytes, and what they make of its form.
+use Rattle.std.specs.Prelude.{None}
 use Prim.Native.Nat.{ℕ, ◌+◌, ◌-◌, ◌<◌, ◌≤◌}
 use mathlib.Core.Path.{◌≡◌, refl, ap, sym, ◌∙◌}
 use mathlib.Core.Bool.{Bool, true, false, cond, ◌&&◌, ◌||◌, not}
@@ -19,7 +20,6 @@ use Rattle.leaves.proofs.Cuts.{up_to-le, up_to-take}
 use Rattle.lines.specs.LineForms.{blank_of, opens_here, char_of, key_char, KeyEnd, endless, equal_at, brace_at, key_end_of, later, key_from, key_byte, Blanks, Passed, KeyPassed, CleanRun, KeyRun, refused_as, rest_form}
 use Rattle.lines.specs.LineLook.{seen_at, look_from, look_in}
 use Rattle.lines.specs.LineSketch.{keyless_form, sketch_form, bare_kind, equal_sketch, brace_sketch}
-use Rattle.lines.specs.declared.Look.TheVariants.{End}
 use Rattle.leaves.proofs.Scan.{at as by_place}
 use Rattle.lines.proofs.SoundEnds.{or-neither}
 use Rattle.lines.proofs.LineForms as forms
@@ -437,15 +437,15 @@ module _ (volume line base at : ℕ) (body : List ℕ) where
   abbrev end : ℕ
   end = base + length body
 
-  pub look-long : most_bytes < base + length body → look_in volume line base at body ≡ End
+  pub look-long : most_bytes < base + length body → look_in volume line base at body ≡ None
   unfolding look_in
   look-long h = rw (lt-leb end most_bytes h)
 
-  pub look-early : at < base → look_in volume line base at body ≡ End
+  pub look-early : at < base → look_in volume line base at body ≡ None
   unfolding look_in
   look-early h = rw (lt-leb base at h, and_false (leb end most_bytes))
 
-  pub look-behind : base + length body < at → look_in volume line base at body ≡ End
+  pub look-behind : base + length body < at → look_in volume line base at body ≡ None
   unfolding look_in
   look-behind h = rw (lt-leb at end h, and_false (leb base at), and_false (leb end most_bytes))
 
@@ -454,7 +454,7 @@ module _ (volume line base at : ℕ) (body : List ℕ) where
     unfolding look_in
     look-there = rw (le-leb end most_bytes m, le-leb base at i, le-leb at end j)
 
-    pub look_none : length (drop (at - base) body) ≤ length (up_to 13 (drop (at - base) body)) → look_in volume line base at body ≡ End
+    pub look_none : length (drop (at - base) body) ≤ length (up_to 13 (drop (at - base) body)) → look_in volume line base at body ≡ None
     unfolding look_from
     look_none h = look-there ∙ rw (le-ltb _ _ h)
 
@@ -468,7 +468,7 @@ module _ (volume line base at : ℕ) (body : List ℕ) where
       left_is : drop (at - base) body ≡ drop from body
       left_is = ap (λ k. drop k body) (sym f)
 
-      pub look-ends : to ≡ length body → look_in volume line base at body ≡ End
+      pub look-ends : to ≡ length body → look_in volume line base at body ≡ None
       look-ends h = look_none (rw left_is (omega (arith, t, f, h, length-drop from body)))
 
       pub look-found : (to ≡ length body → ⊥) → seen_at (line_form_of volume line at (take (to - from) (drop from body))) (base + to) (base + length body) ≡ look_in volume line base at body

@@ -1,9 +1,9 @@
 -- What a look finds of the lines of a volume: laws for those who walk from line to line.
+use Rattle.std.specs.Prelude.{Option, Some, None}
 use Prim.Native.Nat.{ℕ, zero, suc, ◌+◌, ◌-◌, ◌<◌, ◌≤◌}
 use mathlib.Core.Path.{◌≡◌, refl, ap, sym, subst, ◌∙◌}
 use mathlib.Core.Bool.{Bool, true, false, cond}
 use mathlib.Core.List.{List, [], ◌∷◌}
-use mathlib.Core.Option.{Option, none, some}
 use native.Mathlib.Omega.{arith}
 use lib.Dec.{eqb, leb, ltb}
 use lib.ListN.{length, take, drop, drop_of_length-le, length-drop}
@@ -23,8 +23,6 @@ use Rattle.leaves.specs.Bytes.{up_to}
 use Rattle.leaves.proofs.Cuts.{up_to-le, up_to-take}
 use Rattle.lines.specs.LineLook.{seen_at, look_in, lines_in, PartOf}
 use Rattle.lines.specs.declared.Seen.{Seen}
-use Rattle.lines.specs.declared.Look.{Look}
-use Rattle.lines.specs.declared.Look.TheVariants.{End, Line}
 use Rattle.lines.proofs.LineForms.{Around, Apart, scan-apart, unindent-behind}
 use Rattle.lines.proofs.LineLook.{look-long, look-early, look-behind, look_none as none-there, look-some as some-there}
 
@@ -42,40 +40,40 @@ up_more b s e = rw e
 record Cut (t : List ℕ) (ls : List (List ℕ)) : Type 0 where
   others : List (List ℕ)
   first : ls ≡ up_to 13 t ∷ others
-  after : lines_from false (drop (length (up_to 13 t) + 2) t) ≡ some others
+  after : lines_from false (drop (length (up_to 13 t) + 2) t) ≡ Some others
 
 -- either they are cut there, or they have no line, and are one byte
 abbrev CutOr : List ℕ → List (List ℕ) → Type 0
 CutOr t ls = (length (up_to 13 t) < length t → Cut t ls) × (length t ≤ length (up_to 13 t) → (ls ≡ []) × (length t ≡ 1))
 
-map_inv : (o : Option (List (List ℕ))) (ls : List (List ℕ)) → map_o (λ us. [] ∷ us) o ≡ some ls → (us : List (List ℕ)) × (o ≡ some us) × (([] ∷ us) ≡ ls)
-map_inv none ls e = none-some e
-map_inv (some us) ls e = (us, refl, cc)
+map_inv : (o : Option (List (List ℕ))) (ls : List (List ℕ)) → map_o (λ us. [] ∷ us) o ≡ Some ls → (us : List (List ℕ)) × (o ≡ Some us) × (([] ∷ us) ≡ ls)
+map_inv None ls e = none-some e
+map_inv (Some us) ls e = (us, refl, cc)
 
 -- behind a CR
-at-cr : (t : List ℕ) (ls : List (List ℕ)) → lines_from true t ≡ some ls → (us : List (List ℕ)) × (ls ≡ [] ∷ us) × (lines_from false (drop 1 t) ≡ some us)
+at-cr : (t : List ℕ) (ls : List (List ℕ)) → lines_from true t ≡ Some ls → (us : List (List ℕ)) × (ls ≡ [] ∷ us) × (lines_from false (drop 1 t) ≡ Some us)
 at-cr [] ls e = none-some e
 at-cr (c ∷ t) ls e = go (eqb c 10) e
   where
-    go : (q : Bool) → choose q (λ _. map_o (λ us. [] ∷ us) (lines_from false t)) (λ _. none) ≡ some ls → (us : List (List ℕ)) × (ls ≡ [] ∷ us) × (lines_from false t ≡ some us)
+    go : (q : Bool) → choose q (λ _. map_o (λ us. [] ∷ us) (lines_from false t)) (λ _. None) ≡ Some ls → (us : List (List ℕ)) × (ls ≡ [] ∷ us) × (lines_from false t ≡ Some us)
     go true e = let (us, f, w) = map_inv (lines_from false t) ls e in (us, sym w, f)
     go false e = none-some e
 
-head_inv : (b : ℕ) (o : Option (List (List ℕ))) (ls : List (List ℕ)) → head_line b o ≡ some ls → (l : List ℕ) × (us : List (List ℕ)) × (o ≡ some (l ∷ us)) × (((b ∷ l) ∷ us) ≡ ls)
-head_inv b none ls e = none-some e
-head_inv b (some []) ls e = none-some e
-head_inv b (some (l ∷ us)) ls e = (l, us, refl, cc)
+head_inv : (b : ℕ) (o : Option (List (List ℕ))) (ls : List (List ℕ)) → head_line b o ≡ Some ls → (l : List ℕ) × (us : List (List ℕ)) × (o ≡ Some (l ∷ us)) × (((b ∷ l) ∷ us) ≡ ls)
+head_inv b None ls e = none-some e
+head_inv b (Some []) ls e = none-some e
+head_inv b (Some (l ∷ us)) ls e = (l, us, refl, cc)
 
 cons_no-nil : {P : Type 0} {l : List ℕ} {us : List (List ℕ)} → (l ∷ us) ≡ [] → P
 cons_no-nil e = absurd (let z : ◌≡◌ {A = ℕ} 0 1 = cc in omega arith)
 
-cut-cr : (b : ℕ) (t : List ℕ) (ls : List (List ℕ)) → up_to 13 (b ∷ t) ≡ [] → lines_from true t ≡ some ls → CutOr (b ∷ t) ls
+cut-cr : (b : ℕ) (t : List ℕ) (ls : List (List ℕ)) → up_to 13 (b ∷ t) ≡ [] → lines_from true t ≡ Some ls → CutOr (b ∷ t) ls
 cut-cr b t ls z e =
     let (us, f, g) = at-cr t ls e in
     let l = ap length z in
     (λ h. record { others = us; first = f ∙ ap (λ u. u ∷ us) (sym z); after = ap (λ n. lines_from false (drop (n + 2) (b ∷ t))) l ∙ g }, λ h. absurd (omega (arith, l)))
 
-cut-end : (b : ℕ) (t : List ℕ) (ls : List (List ℕ)) → up_to 13 (b ∷ t) ≡ b ∷ up_to 13 t → cond (is_nil t) (some []) none ≡ some ls → CutOr (b ∷ t) ls
+cut-end : (b : ℕ) (t : List ℕ) (ls : List (List ℕ)) → up_to 13 (b ∷ t) ≡ b ∷ up_to 13 t → cond (is_nil t) (Some []) None ≡ Some ls → CutOr (b ∷ t) ls
 cut-end b [] ls z e = let l = ap length z in (λ h. absurd (omega (arith, l)), λ h. (cc, omega arith))
 cut-end b (c ∷ t) ls z e = none-some e
 
@@ -95,27 +93,27 @@ cut-more b t l us ls z i w = let m = ap length z in (
   λ h. cons_no-nil (i.1 (omega (arith, m))).0,
 )
 
-cuts : (t : List ℕ) (ls : List (List ℕ)) → lines_from false t ≡ some ls → CutOr t ls
+cuts : (t : List ℕ) (ls : List (List ℕ)) → lines_from false t ≡ Some ls → CutOr t ls
 cuts [] ls e = none-some e
 cuts (b ∷ t) ls e = cr (eqb b 13) refl (λ us z. cuts t us z) e
   where
-    lf : (q : Bool) → up_to 13 (b ∷ t) ≡ b ∷ up_to 13 t → ((us : List (List ℕ)) → lines_from false t ≡ some us → CutOr t us)
-        → choose q (λ _. none) (λ _. head_line b (lines_from false t)) ≡ some ls → CutOr (b ∷ t) ls
+    lf : (q : Bool) → up_to 13 (b ∷ t) ≡ b ∷ up_to 13 t → ((us : List (List ℕ)) → lines_from false t ≡ Some us → CutOr t us)
+        → choose q (λ _. None) (λ _. head_line b (lines_from false t)) ≡ Some ls → CutOr (b ∷ t) ls
     lf true z ih e = none-some e
     lf false z ih e = let (l, us, f, w) = head_inv b (lines_from false t) ls e in cut-more b t l us ls z (ih (l ∷ us) f) w
 
-    end : (q : Bool) → up_to 13 (b ∷ t) ≡ b ∷ up_to 13 t → ((us : List (List ℕ)) → lines_from false t ≡ some us → CutOr t us)
-        → choose q (λ _. cond (is_nil t) (some []) none) (λ _. choose (eqb b 10) (λ _. none) λ _. head_line b (lines_from false t)) ≡ some ls → CutOr (b ∷ t) ls
+    end : (q : Bool) → up_to 13 (b ∷ t) ≡ b ∷ up_to 13 t → ((us : List (List ℕ)) → lines_from false t ≡ Some us → CutOr t us)
+        → choose q (λ _. cond (is_nil t) (Some []) None) (λ _. choose (eqb b 10) (λ _. None) λ _. head_line b (lines_from false t)) ≡ Some ls → CutOr (b ∷ t) ls
     end true z ih e = cut-end b t ls z e
     end false z ih e = lf (eqb b 10) z ih e
 
-    cr : (q : Bool) → eqb b 13 ≡ q → ((us : List (List ℕ)) → lines_from false t ≡ some us → CutOr t us)
-        → choose q (λ _. lines_from true t) (λ _. choose (eqb b 26) (λ _. cond (is_nil t) (some []) none) λ _. choose (eqb b 10) (λ _. none) λ _. head_line b (lines_from false t)) ≡ some ls
+    cr : (q : Bool) → eqb b 13 ≡ q → ((us : List (List ℕ)) → lines_from false t ≡ Some us → CutOr t us)
+        → choose q (λ _. lines_from true t) (λ _. choose (eqb b 26) (λ _. cond (is_nil t) (Some []) None) λ _. choose (eqb b 10) (λ _. None) λ _. head_line b (lines_from false t)) ≡ Some ls
         → CutOr (b ∷ t) ls
     cr true p ih e = cut-cr b t ls (up-cr b t p) e
     cr false p ih e = end (eqb b 26) (up_more b t p) ih e
 
-some-inside : (s : List ℕ) (at : ℕ) (ls : List (List ℕ)) → lines_from false (drop at s) ≡ some ls → at < length s
+some-inside : (s : List ℕ) (at : ℕ) (ls : List (List ℕ)) → lines_from false (drop at s) ≡ Some ls → at < length s
 some-inside s at ls e = go (leb (length s) at) refl
   where
     go : (q : Bool) → leb (length s) at ≡ q → at < length s
@@ -123,7 +121,7 @@ some-inside s at ls e = go (leb (length s) at) refl
     go false q = leb-false (length s) at q
 
 -- no line is left where one byte is
-one_left : (v : List ℕ) (ls : List (List ℕ)) → lines_from false v ≡ some ls → eqb (length v) 1 ≡ is_nil ls
+one_left : (v : List ℕ) (ls : List (List ℕ)) → lines_from false v ≡ Some ls → eqb (length v) 1 ≡ is_nil ls
 one_left v ls e = go (ltb (length (up_to 13 v)) (length v)) refl
   where
     go : (q : Bool) → ltb (length (up_to 13 v)) (length v) ≡ q → eqb (length v) 1 ≡ is_nil ls
@@ -259,10 +257,10 @@ record Cutting (volume line base at : ℕ) (body : List ℕ) (f : Seen) : Type 0
   next-is : f.next ≡ at + length line-bytes + 2
   last-is : f.last ≡ eqb (at + length line-bytes + 2 + 1) (base + length body)
 
-end_line : {P : Type 0} {f : Seen} → End ≡ Line f → P
+end_line : {P : Type 0} {f : Seen} → None ≡ Some f → P
 end_line e = absurd (let z : ◌≡◌ {A = ℕ} 0 1 = cc in omega arith)
 
-look-cut : (volume line base at : ℕ) (body : List ℕ) (f : Seen) → look_in volume line base at body ≡ Line f → Cutting volume line base at body f
+look-cut : (volume line base at : ℕ) (body : List ℕ) (f : Seen) → look_in volume line base at body ≡ Some f → Cutting volume line base at body f
 look-cut volume line base at body f e = long (leb (base + length body) most_bytes) refl
   where
     found : base + length body ≤ most_bytes → base ≤ at → at ≤ base + length body → (q : Bool) → ltb (length (up_to 13 (drop (at - base) body))) (length (drop (at - base) body)) ≡ q → Cutting volume line base at body f
@@ -270,7 +268,7 @@ look-cut volume line base at body f e = long (leb (base + length body) most_byte
         let t = drop (at - base) body in
         let l = up_to 13 t in
         let n = ltb-true (length l) (length t) q in
-        let z : seen_at (line_form_of volume line at l) (at + length l) (base + length body) ≡ Line f = sym (some-there volume line base at body h i j n) ∙ e in
+        let z : seen_at (line_form_of volume line at l) (at + length l) (base + length body) ≡ Some f = sym (some-there volume line base at body h i j n) ∙ e in
         let w : record { form = line_form_of volume line at l; next = at + length l + 2; last = eqb (at + length l + 2 + 1) (base + length body) } ≡ f = cc in
         record {
           most = h;
@@ -322,7 +320,7 @@ module _ (volume line base at : ℕ) (s body : List ℕ) (f : Seen) (part : Part
       (held_in s volume line (at + length c.line-bytes) (form_of at c.line-bytes) (held-line s at c.line-bytes cut_sits) (omega arith)))
 
 -- ── bounds of what a look saw, whatever the bytes ──
-module _ (volume line base at : ℕ) (body : List ℕ) (f : Seen) (e : look_in volume line base at body ≡ Line f) where
+module _ (volume line base at : ℕ) (body : List ℕ) (f : Seen) (e : look_in volume line base at body ≡ Some f) where
   module _ (s : List ℕ) (part : PartOf s base body) where
     form_in_lem : (g : LineForm) → f.form ≡ g → FormIn s volume line f.next g
     form_in_lem g q = subst (FormIn s volume line f.next) q (cut_in volume line base at s body f part (look-cut volume line base at body f e))
@@ -358,7 +356,7 @@ pub record Follows (s : List ℕ) (base at : ℕ) (body l : List ℕ) (ls : List
   pub form : form_in s f.form ≡ form_of at l
   pub next : f.next ≡ at + length l + 2
   pub last : f.last ≡ is_nil ls
-  pub after : lines_in base f.next body ≡ some ls
+  pub after : lines_in base f.next body ≡ Some ls
   pub forward : at < f.next
   pub inside : f.next < base + length body
 
@@ -371,10 +369,10 @@ pub record Found (s : List ℕ) (base at : ℕ) (body : List ℕ) (ls : List (Li
 -- a look at the first of these lines saw it
 pub record Shown (volume line base at : ℕ) (s body l : List ℕ) (ls : List (List ℕ)) : Type 0 where
   pub seen : Seen
-  pub answer : look_in volume line base at body ≡ Line seen
+  pub answer : look_in volume line base at body ≡ Some seen
   pub follows : Follows s base at body l ls seen
 
-module _ (volume line base at : ℕ) (s body : List ℕ) (ls : List (List ℕ)) (part : PartOf s base body) (h : length s ≤ most_bytes) (i : base ≤ at) (j : at ≤ base + length body) (e : lines_in base at body ≡ some ls) where
+module _ (volume line base at : ℕ) (s body : List ℕ) (ls : List (List ℕ)) (part : PartOf s base body) (h : length s ≤ most_bytes) (i : base ≤ at) (j : at ≤ base + length body) (e : lines_in base at body ≡ Some ls) where
   -- the volume's bytes that are left
   abbrev left : List ℕ
   left = drop (at - base) body
@@ -386,7 +384,7 @@ module _ (volume line base at : ℕ) (s body : List ℕ) (ls : List (List ℕ)) 
       let n = ap length c.is-first in
       let y : at - base + (length (up_to 13 left) + 2) ≡ f.next - base = omega (arith, n, c.next-is) in
       let rest : drop (f.next - base) body ≡ drop (length (up_to 13 left) + 2) left = sym (drop-drop (length (up_to 13 left) + 2) (at - base) body ∙ ap (λ p. drop p body) y) in
-      let after : lines_in base f.next body ≡ some w.others = ap (lines_from false) rest ∙ w.after in
+      let after : lines_in base f.next body ≡ Some w.others = ap (lines_from false) rest ∙ w.after in
       let x = some-inside body (f.next - base) w.others after in
       let size = length-drop (f.next - base) body in
       record {
@@ -404,31 +402,31 @@ module _ (volume line base at : ℕ) (s body : List ℕ) (ls : List (List ℕ)) 
             };
       }
 
-  pub look-line : (f : Seen) → look_in volume line base at body ≡ Line f → Found s base at body ls f
+  pub look-line : (f : Seen) → look_in volume line base at body ≡ Some f → Found s base at body ls f
   look-line f q =
       let c = look-cut volume line base at body f q in
       cut-found f c ((cuts left ls e).0 (omega (arith, ap length c.is-first, c.cr, length-drop (at - base) body)))
 
-  pub look-end : look_in volume line base at body ≡ End → ls ≡ []
+  pub look-end : look_in volume line base at body ≡ None → ls ≡ []
   look-end q = go (ltb (length (up_to 13 left)) (length left)) refl
     where
       go : (b : Bool) → ltb (length (up_to 13 (drop (at - base) body))) (length (drop (at - base) body)) ≡ b → ls ≡ []
       go true p = let t = drop (at - base) body in end_line (sym q ∙ some-there volume line base at body (omega (arith, part.inside)) i j (ltb-true (length (up_to 13 t)) (length t) p))
       go false p = let t = drop (at - base) body in ((cuts t ls e).1 (ltb-false (length (up_to 13 t)) (length t) p)).0
 
-  pub look_none : ls ≡ [] → look_in volume line base at body ≡ End
+  pub look_none : ls ≡ [] → look_in volume line base at body ≡ None
   look_none q = go (look_in volume line base at body) refl
     where
-      go : (x : Look) → look_in volume line base at body ≡ x → x ≡ End
-      go End p = refl
-      go (Line f) p = cons_no-nil (sym (look-line f p).lines ∙ q)
+      go : (x : Option Seen) → look_in volume line base at body ≡ x → x ≡ None
+      go None p = refl
+      go (Some f) p = cons_no-nil (sym (look-line f p).lines ∙ q)
 
   pub look-some : (l : List ℕ) (us : List (List ℕ)) → ls ≡ l ∷ us → Shown volume line base at s body l us
   look-some l us q = go (look_in volume line base at body) refl
     where
-      go : (x : Look) → look_in volume line base at body ≡ x → Shown volume line base at s body l us
-      go End p = cons_no-nil (sym q ∙ look-end p)
-      go (Line f) p =
+      go : (x : Option Seen) → look_in volume line base at body ≡ x → Shown volume line base at s body l us
+      go None p = cons_no-nil (sym q ∙ look-end p)
+      go (Some f) p =
           let w = look-line f p in
           let z = sym w.lines ∙ q in
           let a : w.line ≡ l = cc in
@@ -448,17 +446,17 @@ part_of s from to i j =
     record { bytes = ap (λ k. take k (drop from s)) (sym n); inside = omega (arith, n) }
 
 -- the limit of a line's length is tested before
-pub lines_of_lem : (s : List ℕ) (ls : List (List ℕ)) → lines_of s ≡ some ls → lines_from false s ≡ some ls
+pub lines_of_lem : (s : List ℕ) (ls : List (List ℕ)) → lines_of s ≡ Some ls → lines_from false s ≡ Some ls
 unfolding lines_of
 lines_of_lem s ls e = go (lines_from false s) e
   where
-    short : (t : Bool) (us : List (List ℕ)) → cond t (some us) none ≡ some ls → some us ≡ some ls
+    short : (t : Bool) (us : List (List ℕ)) → cond t (Some us) None ≡ Some ls → Some us ≡ Some ls
     short true us e = e
     short false us e = none-some e
 
-    go : (o : Option (List (List ℕ))) → short_lines o ≡ some ls → o ≡ some ls
-    go none e = none-some e
-    go (some us) e = short (all (λ l. leb (length l) most_in_line) us) us e
+    go : (o : Option (List (List ℕ))) → short_lines o ≡ Some ls → o ≡ Some ls
+    go None e = none-some e
+    go (Some us) e = short (all (λ l. leb (length l) most_in_line) us) us e
 
-pub lines-from-start : (base : ℕ) (body : List ℕ) (ls : List (List ℕ)) → lines_of body ≡ some ls → lines_in base base body ≡ some ls
+pub lines-from-start : (base : ℕ) (body : List ℕ) (ls : List (List ℕ)) → lines_of body ≡ Some ls → lines_in base base body ≡ Some ls
 lines-from-start base body ls e = let z : base - base ≡ 0 = omega arith in ap (λ k. lines_from false (drop k body)) z ∙ lines_of_lem body ls e

@@ -1,9 +1,9 @@
 -- Laws of rule 3 by place: a run of bytes inside a line, and what stands behind it.
+use Rattle.std.specs.Prelude.{Option, Some, None}
 use Prim.Native.Nat.{ℕ, zero, suc, ◌+◌, ◌-◌, ◌<◌, ◌≤◌, zero-le}
 use mathlib.Core.Path.{◌≡◌, refl, ap, sym, ◌∙◌}
 use mathlib.Core.Bool.{Bool, true, false, cond, ◌&&◌, ◌||◌}
 use mathlib.Core.List.{List, [], ◌∷◌}
-use mathlib.Core.Option.{Option, none, some}
 use native.Mathlib.Omega.{arith}
 use lib.Dec.{eqb, leb, ltb}
 use lib.ListN.{length, get_or, take, drop, drop_of_length-le, length-drop}
@@ -126,34 +126,34 @@ short l = leb (length l) most_in_line
 
 -- the lines are sound, where n bytes stand before the first of them
 abbrev sound_after : ℕ → Option (List (List ℕ)) → Bool
-sound_after n none = false
-sound_after n (some []) = eqb n 0
-sound_after n (some (l ∷ ls)) = leb (n + length l) most_in_line && all short ls
+sound_after n None = false
+sound_after n (Some []) = eqb n 0
+sound_after n (Some (l ∷ ls)) = leb (n + length l) most_in_line && all short ls
 
 sound-first : (o : Option (List (List ℕ))) → sound_after 0 o ≡ is_some (short_lines o)
-sound-first none = refl
-sound-first (some []) = refl
-sound-first (some (l ∷ ls)) =
+sound-first None = refl
+sound-first (Some []) = refl
+sound-first (Some (l ∷ ls)) =
     let e : 0 + length l ≡ length l = omega arith in
     ap (λ k. leb k most_in_line && all short ls) e
-    ∙ elim (leb (length l) most_in_line && all short ls) as (λ t. t ≡ is_some (cond t (some (l ∷ ls)) none)) [ true ↦ refl | false ↦ refl ]
+    ∙ elim (leb (length l) most_in_line && all short ls) as (λ t. t ≡ is_some (cond t (Some (l ∷ ls)) None)) [ true ↦ refl | false ↦ refl ]
 
 -- behind CR LF
 sound-anew : (n : ℕ) (o : Option (List (List ℕ))) → n ≤ most_in_line → sound_after 0 o ≡ sound_after n (map_o (λ ls. [] ∷ ls) o)
-sound-anew n none h = refl
-sound-anew n (some []) h = sym (rw (le-leb (n + 0) most_in_line (omega arith)))
-sound-anew n (some (l ∷ ls)) h =
+sound-anew n None h = refl
+sound-anew n (Some []) h = sym (rw (le-leb (n + 0) most_in_line (omega arith)))
+sound-anew n (Some (l ∷ ls)) h =
     let e : 0 + length l ≡ length l = omega arith in
     ap (λ k. leb k most_in_line && all short ls) e ∙ sym (rw (le-leb (n + 0) most_in_line (omega arith)))
 
 sound_more : (n b : ℕ) (o : Option (List (List ℕ))) → sound_after (n + 1) o ≡ sound_after n (head_line b o)
-sound_more n b none = refl
-sound_more n b (some []) = ne_eqb (n + 1) 0 (omega arith)
-sound_more n b (some (l ∷ ls)) = let e : n + 1 + length l ≡ n + suc (length l) = omega arith in ap (λ k. leb k most_in_line && all short ls) e
+sound_more n b None = refl
+sound_more n b (Some []) = ne_eqb (n + 1) 0 (omega arith)
+sound_more n b (Some (l ∷ ls)) = let e : n + 1 + length l ≡ n + suc (length l) = omega arith in ap (λ k. leb k most_in_line && all short ls) e
 
 sound_none : (n : ℕ) (o : Option (List (List ℕ))) → most_in_line < n → sound_after n (map_o (λ ls. [] ∷ ls) o) ≡ false
-sound_none n none h = refl
-sound_none n (some ls) h = rw (lt-leb (n + 0) most_in_line (omega arith))
+sound_none n None h = refl
+sound_none n (Some ls) h = rw (lt-leb (n + 0) most_in_line (omega arith))
 
 sound-is : (s : List ℕ) → is_some (lines_of s) ≡ sound_after 0 (lines_from false s)
 unfolding lines_of
@@ -187,7 +187,7 @@ run_hit (b ∷ s) h = go (end_byte b) refl h (run_hit s)
 last_of : (i e b : ℕ) (w : List ℕ) → i ≤ e → end_byte b ≡ true → eqb b 13 ≡ false → sound_after (e - i) (lines_from false (b ∷ w)) ≡ (eqb b 26 && (eqb e i && is_nil w))
 last_of i e b w h q c = rw c (go (eqb b 26) refl)
   where
-    one : (v : List ℕ) → sound_after (e - i) (cond (is_nil v) (some []) none) ≡ (eqb e i && is_nil v)
+    one : (v : List ℕ) → sound_after (e - i) (cond (is_nil v) (Some []) None) ≡ (eqb e i && is_nil v)
     one [] = go (eqb e i) refl
       where
         go : (t : Bool) → eqb e i ≡ t → eqb (e - i) 0 ≡ (t && true)
@@ -195,7 +195,7 @@ last_of i e b w h q c = rw c (go (eqb b 26) refl)
         go false p = ne_eqb (e - i) 0 (λ z. eqb-false e i p (omega (arith, z)))
     one (x ∷ v) = sym (and_false (eqb e i))
 
-    go : (t : Bool) → eqb b 26 ≡ t → sound_after (e - i) (choose t (λ _. cond (is_nil w) (some []) none) λ _. choose (eqb b 10) (λ _. none) λ _. head_line b (lines_from false w)) ≡ (t && (eqb e i && is_nil w))
+    go : (t : Bool) → eqb b 26 ≡ t → sound_after (e - i) (choose t (λ _. cond (is_nil w) (Some []) None) λ _. choose (eqb b 10) (λ _. None) λ _. head_line b (lines_from false w)) ≡ (t && (eqb e i && is_nil w))
     go true p = one w
     go false p = let z : eqb b 10 ≡ true = sym (ap (λ x. eqb b 10) c) ∙ rw (c, p) at q in rw z
 
@@ -231,7 +231,7 @@ module _ (s : List ℕ) (i e : ℕ) (z : e ≡ i + plain_run (drop i s)) where
     pub sound-wide : most_in_line < e - i → is_some (lines_of (drop i s)) ≡ false
     sound-wide m = behind ∙ rw (at s e h, eq-eqb _ _ c) (go (drop (e + 1) s))
       where
-        pick : (q : Bool) (o : Option (List (List ℕ))) → sound_after (e - i) (choose q (λ _. map_o (λ ls. [] ∷ ls) o) (λ _. none)) ≡ false
+        pick : (q : Bool) (o : Option (List (List ℕ))) → sound_after (e - i) (choose q (λ _. map_o (λ ls. [] ∷ ls) o) (λ _. None)) ≡ false
         pick true o = sound_none (e - i) o m
         pick false o = refl
 

@@ -1,5 +1,6 @@
 -- The public functions of this crate have one answer each (as `Unique` in leaves has it: FUNCTION-unique in the contract's own words,
 -- FUNCTION-code of the contract as the code has it).
+use Rattle.std.specs.Prelude.{Option}
 use Prim.Native.Nat.{ℕ}
 use mathlib.Core.Bool.{Bool}
 use mathlib.Core.List.{List}
@@ -11,15 +12,14 @@ use Rattle.lines.specs.LineEnds.{first_unsound}
 use Rattle.lines.specs.LineLook.{look_in}
 use Rattle.lines.specs.VolumeNames.{name_at}
 use Rattle.lines.specs.VolumePlaces.{head_in, layout_of}
-use Rattle.lines.specs.declared.Head.{Head}
 use Rattle.lines.specs.declared.Layout.{Layout}
-use Rattle.lines.specs.declared.Look.{Look}
 use Rattle.lines.proofs.ends.sound_lines as sound-lines'
 use Rattle.lines.proofs.ends.first_unsound as first-unsound'
 use Rattle.lines.proofs.forms.look as look'
 use Rattle.lines.proofs.spool.head_of as head-of'
 use Rattle.lines.proofs.spool.volumes as volumes'
 use Rattle.lines.proofs.spool.volume_name as volume-name'
+use Rattle.lines.specs.declared.Seen.{Seen}
 
 -- ── ends ──
 pub sound-lines_unique : (s : List ℕ) (r₁ r₂ : Bool) → r₁ ≡ is_some (lines_of s) → r₂ ≡ is_some (lines_of s) → r₁ ≡ r₂
@@ -35,14 +35,14 @@ first_unsound-code : One first-unsound'.Kinds.ps first-unsound'.Kinds.r first-un
 first_unsound-code κs x r₁ r₂ e₁ e₂ = first_unsound_unique x.0.now x.1.0 r₁ r₂
 
 -- ── forms ──
-pub look_unique : (body : List ℕ) (base at volume line : ℕ) (r₁ r₂ : Look) → r₁ ≡ look_in volume line base at body → r₂ ≡ look_in volume line base at body → r₁ ≡ r₂
+pub look_unique : (body : List ℕ) (base at volume line : ℕ) (r₁ r₂ : Option Seen) → r₁ ≡ look_in volume line base at body → r₂ ≡ look_in volume line base at body → r₁ ≡ r₂
 look_unique body base at volume line r₁ r₂ c₁ c₂ = c₁ ∙ sym c₂
 
 look-code : One look'.Kinds.ps look'.Kinds.r look'.Reads.Learnt (λ κs r e. r)
 look-code κs x r₁ r₂ e₁ e₂ = look_unique x.0.now x.1.0 x.1.1.0 x.1.1.1.0 x.1.1.1.1.0 r₁ r₂
 
 -- ── spool ──
-pub head_of_unique : (s : List ℕ) (r₁ r₂ : Head) → r₁ ≡ head_in s → r₂ ≡ head_in s → r₁ ≡ r₂
+pub head_of_unique : (s : List ℕ) (r₁ r₂ : Option ℕ) → r₁ ≡ head_in s → r₂ ≡ head_in s → r₁ ≡ r₂
 head_of_unique s r₁ r₂ c₁ c₂ = c₁ ∙ sym c₂
 
 head_of-code : One head-of'.Kinds.ps head-of'.Kinds.r head-of'.Reads.Learnt (λ κs r e. r)

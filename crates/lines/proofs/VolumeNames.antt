@@ -1,9 +1,9 @@
 -- Laws of volumes' names: a scan's step by place, and what a good name is, as the code tests it.
+use Rattle.std.specs.Prelude.{Option, Some, None}
 use Prim.Native.Nat.{ℕ, zero, suc, ◌+◌, ◌-◌, ◌<◌, ◌≤◌, zero-le}
 use mathlib.Core.Path.{◌≡◌, refl, ap, sym, ◌∙◌}
 use mathlib.Core.Bool.{Bool, true, false, cond, ◌&&◌, not}
 use mathlib.Core.List.{List, [], ◌∷◌, ◌++◌, map}
-use mathlib.Core.Option.{Option, none, some}
 use native.Mathlib.Omega.{arith}
 use lib.Dec.{eqb, leb}
 use lib.ListN.{length, get_or, take, drop, replicate, drop_of_length-le, length-take}
@@ -108,8 +108,8 @@ among_miss : (k u : List ℕ) (us : List (List ℕ)) → same k u ≡ false → 
 among_miss k u us e = rw e (go (index_of k us))
   where
     go : (o : Option ℕ) → is_some (map_o suc o) ≡ is_some o
-    go none = refl
-    go (some n) = refl
+    go None = refl
+    go (Some n) = refl
 
 module _ (f : ℕ → List ℕ) (ps : List ℕ) (i : ℕ) where
   pub again_hit : (k : List ℕ) → i < length ps → same k (f (get_or ps i 0)) ≡ true → among k (map f (drop i ps)) ≡ true

@@ -1,9 +1,9 @@
 -- Laws of the walk over a spool's volumes: the head, one volume more, and what the places hold of the volumes.
+use Rattle.std.specs.Prelude.{Option, Some, None}
 use Prim.Native.Nat.{ℕ, zero, suc, ◌+◌, ◌*◌, ◌-◌, ◌<◌, ◌≤◌}
 use mathlib.Core.Path.{◌≡◌, refl, ap, sym, subst, ◌∙◌}
 use mathlib.Core.Bool.{Bool, true, false, cond, ◌&&◌, not}
 use mathlib.Core.List.{List, [], ◌∷◌, map}
-use mathlib.Core.Option.{Option, none, some}
 use native.Mathlib.Omega.{arith}
 use lib.Dec.{eqb, leb}
 use lib.ListN.{length, get_or, take, drop, set, length-drop, length-take, drop_of_length-le, length-map, length-set}
@@ -14,8 +14,6 @@ use Rattle.rules.specs.Base.{choose, all, is_nil, is_some, map_o, same, index_of
 use Rattle.rules.specs.Spool.{most_bytes, most_volumes, Volume, name_byte, name_of, padded_name, good_name, length_of, good_head, volume_at, volumes_from, names_of, sound_volumes, volumes_of}
 use Rattle.lines.specs.VolumeNames.{raw_name, Ranged}
 use Rattle.lines.specs.VolumePlaces.{head_in, walked, zeros, layout, no_layout, layout_with, layout_of}
-use Rattle.lines.specs.declared.Head.{Head}
-use Rattle.lines.specs.declared.Head.TheVariants.{Holds, Bad}
 use Rattle.lines.specs.declared.Layout.{Layout}
 use Rattle.leaves.proofs.Scan.{at as by_place}
 
@@ -23,10 +21,10 @@ use Rattle.leaves.proofs.Scan.{at as by_place}
 abbrev pub size_in : List ℕ → ℕ
 size_in s = get_or s 10 0 * 256 + get_or s 11 0
 
-abbrev pub head_by : Bool → Bool → Bool → Bool → ℕ → Head
-head_by a b c d n = cond (((a && b) && c) && d) (Holds n) Bad
+abbrev pub head_by : Bool → Bool → Bool → Bool → ℕ → Option ℕ
+head_by a b c d n = cond (((a && b) && c) && d) (Some n) None
 
-pub head-short : (s : List ℕ) → length s < 12 → head_in s ≡ Bad
+pub head-short : (s : List ℕ) → length s < 12 → head_in s ≡ None
 unfolding head_in
 head-short s h = rw (ne_eqb (length (take 12 s)) 12 (omega (arith, length-take 12 s)))
 
@@ -77,22 +75,22 @@ head-name h r g =
     let b = same (take 2 h) (86 ∷ 80 ∷ []) in
     and_right (a && b) (good_name f) (and_left ((a && b) && good_name f) (leb (length_of h) (length r)) g)
 
-holds_inv : (g : Bool) (n m : ℕ) → cond g (Holds n) Bad ≡ Holds m → (g ≡ true) × (n ≡ m)
+holds_inv : (g : Bool) (n m : ℕ) → cond g (Some n) None ≡ Some m → (g ≡ true) × (n ≡ m)
 holds_inv true n m e = (refl, cc)
 holds_inv false n m e = absurd (let z : ◌≡◌ {A = ℕ} 0 1 = cc in omega arith)
 
-bad_inv : (g : Bool) (n : ℕ) → cond g (Holds n) Bad ≡ Bad → g ≡ false
+bad_inv : (g : Bool) (n : ℕ) → cond g (Some n) None ≡ None → g ≡ false
 bad_inv true n e = absurd (let z : ◌≡◌ {A = ℕ} 0 1 = cc in omega arith)
 bad_inv false n e = refl
 
-pub head-holds : (t : List ℕ) (m : ℕ) → head_in t ≡ Holds m → Headed t m
+pub head-holds : (t : List ℕ) (m : ℕ) → head_in t ≡ Some m → Headed t m
 unfolding head_in
 head-holds t m e =
     let i = holds_inv (good_head (take 12 t) (drop 12 t)) (length_of (take 12 t)) m e in
     let r = head-room (take 12 t) (drop 12 t) i.0 in
     record { good = i.0; size = i.1; room = omega (arith, r.0, r.1, i.1, length-take 12 t, length-drop 12 t) }
 
-pub head-bad : (t : List ℕ) → head_in t ≡ Bad → good_head (take 12 t) (drop 12 t) ≡ false
+pub head-bad : (t : List ℕ) → head_in t ≡ None → good_head (take 12 t) (drop 12 t) ≡ false
 unfolding head_in
 head-bad t e = bad_inv (good_head (take 12 t) (drop 12 t)) (length_of (take 12 t)) e
 
@@ -101,25 +99,25 @@ unfoldable pub rest : ℕ → ℕ → List ℕ → Option (List Volume)
 rest k at s = volumes_from k at (drop at s)
 
 open-volumes : (k at : ℕ) (t : List ℕ) → 0 < length t
-    → volumes_from (suc k) at t ≡ choose (good_head (take 12 t) (drop 12 t)) (λ _. map_o (λ vs. volume_at at (take 12 t) (drop 12 t) ∷ vs) (volumes_from k (at + 12 + length_of (take 12 t)) (drop (length_of (take 12 t)) (drop 12 t)))) (λ _. none)
+    → volumes_from (suc k) at t ≡ choose (good_head (take 12 t) (drop 12 t)) (λ _. map_o (λ vs. volume_at at (take 12 t) (drop 12 t) ∷ vs) (volumes_from k (at + 12 + length_of (take 12 t)) (drop (length_of (take 12 t)) (drop 12 t)))) (λ _. None)
 open-volumes k at [] h = absurd (omega arith)
 open-volumes k at (b ∷ t) h = refl
 
 module _ (s : List ℕ) (at : ℕ) where
-  pub rest-full : at < length s → rest 0 at s ≡ none
+  pub rest-full : at < length s → rest 0 at s ≡ None
   unfolding rest
   rest-full h = rw (by_place s at h)
 
-  pub rest_end : (k : ℕ) → length s ≤ at → rest k at s ≡ some []
+  pub rest_end : (k : ℕ) → length s ≤ at → rest k at s ≡ Some []
   unfolding rest
   rest_end zero h = rw (drop_of_length-le s h)
   rest_end (suc k) h = rw (drop_of_length-le s h)
 
-  pub rest-bad : (k : ℕ) → at < length s → head_in (drop at s) ≡ Bad → rest (suc k) at s ≡ none
+  pub rest-bad : (k : ℕ) → at < length s → head_in (drop at s) ≡ None → rest (suc k) at s ≡ None
   unfolding rest
   rest-bad k h e = open-volumes k at (drop at s) (omega (arith, length-drop at s)) ∙ rw (head-bad (drop at s) e)
 
-  pub rest_more : (k m : ℕ) → at < length s → head_in (drop at s) ≡ Holds m
+  pub rest_more : (k m : ℕ) → at < length s → head_in (drop at s) ≡ Some m
       → rest (suc k) at s ≡ map_o (λ vs. volume_at at (take 12 (drop at s)) (drop 12 (drop at s)) ∷ vs) (rest k (at + 12 + m) s)
   unfolding rest
   rest_more k m h e =
@@ -129,15 +127,15 @@ module _ (s : List ℕ) (at : ℕ) where
       ∙ go (take 12 (drop at s)) (drop 12 (drop at s)) g.good g.size (drop-drop m 12 (drop at s) ∙ drop-drop (12 + m) at s ∙ ap (λ k. drop k s) p)
     where
       go : (h r : List ℕ) → good_head h r ≡ true → length_of h ≡ m → drop m r ≡ drop (at + 12 + m) s
-          → choose (good_head h r) (λ _. map_o (λ vs. volume_at at h r ∷ vs) (volumes_from k (at + 12 + length_of h) (drop (length_of h) r))) (λ _. none)
+          → choose (good_head h r) (λ _. map_o (λ vs. volume_at at h r ∷ vs) (volumes_from k (at + 12 + length_of h) (drop (length_of h) r))) (λ _. None)
           ≡ map_o (λ vs. volume_at at h r ∷ vs) (volumes_from k (at + 12 + m) (drop (at + 12 + m) s))
       go h r g e d = rw (g, e, d)
 
 -- ── one volume more in the layout ──
 pub layout-more : (n : ℕ) (ps ls : List ℕ) (v : Volume) (o : Option (List Volume))
     → layout_with n ps ls (map_o (λ vs. v ∷ vs) o) ≡ layout_with (n + 1) (set ps n v.place) (set ls n (length v.body)) o
-layout-more n ps ls v none = refl
-layout-more n ps ls v (some vs) =
+layout-more n ps ls v None = refl
+layout-more n ps ls v (Some vs) =
     let e : n + suc (length vs) ≡ n + 1 + length vs = omega arith in
     let f : suc n ≡ n + 1 = omega arith in
     let p = set ps n v.place in
@@ -161,7 +159,7 @@ module _ (s : List ℕ) (n at : ℕ) (ps ls : List ℕ) (w : Walked s n at ps ls
   pub walk-full : at < length s → n ≡ 12 → layout_of (walked s) ≡ no_layout
   walk-full h e = let z : 12 - n ≡ 0 = omega arith in w.eq ∙ ap (λ k. layout_with n ps ls (rest k at s)) z ∙ ap (layout_with n ps ls) (rest-full s at h)
 
-  pub walk-bad : at < length s → (n ≡ 12 → ⊥) → head_in (drop at s) ≡ Bad → layout_of (walked s) ≡ no_layout
+  pub walk-bad : at < length s → (n ≡ 12 → ⊥) → head_in (drop at s) ≡ None → layout_of (walked s) ≡ no_layout
   walk-bad h f e =
       let b = w.few in
       let z : 12 - n ≡ suc (11 - n) = omega arith in
@@ -170,7 +168,7 @@ module _ (s : List ℕ) (n at : ℕ) (ps ls : List ℕ) (w : Walked s n at ps ls
   pub walk_ends : length s ≤ at → layout_of (walked s) ≡ layout n ps ls
   walk_ends h = let e : n + 0 ≡ n = omega arith in w.eq ∙ ap (layout_with n ps ls) (rest_end s at (12 - n) h) ∙ ap (λ k. layout k ps ls) e
 
-  pub walk_more : (m : ℕ) → at < length s → (n ≡ 12 → ⊥) → head_in (drop at s) ≡ Holds m → Walked s (n + 1) (at + 12 + m) (set ps n (at + 12)) (set ls n m)
+  pub walk_more : (m : ℕ) → at < length s → (n ≡ 12 → ⊥) → head_in (drop at s) ≡ Some m → Walked s (n + 1) (at + 12 + m) (set ps n (at + 12)) (set ls n m)
   walk_more m h f e =
       let g = head-holds (drop at s) m e in
       let b = w.few in
@@ -223,17 +221,17 @@ placed s at g =
       held = ap (take m) (drop-drop 12 at s) ∙ ap (λ k. take k (drop (at + 12) s)) (sym size);
     }
 
-map-some : {A B : Type 0} (f : A → B) (o : Option A) (b : B) → map_o f o ≡ some b → (a : A) × (o ≡ some a) × (f a ≡ b)
-map-some f none b e = none-some e
-map-some f (some a) b e = (a, refl, cc)
+map-some : {A B : Type 0} (f : A → B) (o : Option A) (b : B) → map_o f o ≡ Some b → (a : A) × (o ≡ Some a) × (f a ≡ b)
+map-some f None b e = none-some e
+map-some f (Some a) b e = (a, refl, cc)
 
 abbrev Kept : List ℕ → ℕ → List Volume → Type 0
 Kept s k vs = AllPlaced s vs × (length vs ≤ k)
 
-none_kept : (s : List ℕ) (k : ℕ) (vs : List Volume) → some [] ≡ some vs → Kept s k vs
+none_kept : (s : List ℕ) (k : ℕ) (vs : List Volume) → Some [] ≡ Some vs → Kept s k vs
 none_kept s k vs e = let q : [] ≡ vs = cc in subst (λ us. Kept s k us) q (tt, omega arith)
 
-pub all_placed : (k at : ℕ) (s : List ℕ) (vs : List Volume) → rest k at s ≡ some vs → Kept s k vs
+pub all_placed : (k at : ℕ) (s : List ℕ) (vs : List Volume) → rest k at s ≡ Some vs → Kept s k vs
 all_placed zero at s vs e = go (leb (length s) at) refl
   where
     go : (b : Bool) → leb (length s) at ≡ b → Kept s zero vs
@@ -241,10 +239,10 @@ all_placed zero at s vs e = go (leb (length s) at) refl
     go false q = none-some (sym (rest-full s at (leb-false (length s) at q)) ∙ e)
 all_placed (suc k) at s vs e = go (leb (length s) at) refl (head_in (drop at s)) refl (λ at' us z. all_placed k at' s us z)
   where
-    go : (b : Bool) → leb (length s) at ≡ b → (h : Head) → head_in (drop at s) ≡ h → ((at' : ℕ) (us : List Volume) → rest k at' s ≡ some us → Kept s k us) → Kept s (suc k) vs
+    go : (b : Bool) → leb (length s) at ≡ b → (h : Option ℕ) → head_in (drop at s) ≡ h → ((at' : ℕ) (us : List Volume) → rest k at' s ≡ Some us → Kept s k us) → Kept s (suc k) vs
     go true q h p ih = none_kept s (suc k) vs (sym (rest_end s at (suc k) (leb-true (length s) at q)) ∙ e)
-    go false q Bad p ih = none-some (sym (rest-bad s at k (leb-false (length s) at q) p) ∙ e)
-    go false q (Holds m) p ih =
+    go false q None p ih = none-some (sym (rest-bad s at k (leb-false (length s) at q) p) ∙ e)
+    go false q (Some m) p ih =
         let v = volume_at at (take 12 (drop at s)) (drop 12 (drop at s)) in
         let (us, f, w) = map-some (λ vs. v ∷ vs) (rest k (at + 12 + m) s) vs (sym (rest_more s at k m (leb-false (length s) at q) p) ∙ e) in
         let i = ih (at + 12 + m) us f in
@@ -274,7 +272,7 @@ same_index s v (u ∷ us) p q =
     let e : same (raw_name s v.place) (raw_name s u.place) ≡ same v.name u.name =
     same_names (raw_name s v.place) (raw_name s u.place) p.good q.0.good ∙ ap (λ x. same x (name_of (raw_name s u.place))) (sym p.named) ∙ ap (same v.name) (sym q.0.named) in
     let f = same_index s v us p q.1 in
-    ap (λ t. cond t (some 0) (map_o suc (index_of (raw_name s v.place) (raws s us)))) e ∙ ap (λ o. cond (same v.name u.name) (some 0) (map_o suc o)) f
+    ap (λ t. cond t (Some 0) (map_o suc (index_of (raw_name s v.place) (raws s us)))) e ∙ ap (λ o. cond (same v.name u.name) (Some 0) (map_o suc o)) f
 
 same-distinct : (s : List ℕ) (vs : List Volume) → AllPlaced s vs → distinct (raws s vs) ≡ distinct (names_of vs)
 same-distinct s [] p = refl
@@ -301,7 +299,7 @@ stored-are f vs h =
     let z : length zeros ≡ 12 = zeros-long in
     ap (take (0 + length vs)) (sets-eq xs zeros 0 (omega arith)) ∙ take_at xs (drop (0 + length xs) zeros) (0 + length vs) (omega arith)
 
-places-are : (vs : List Volume) → length vs ≤ most_volumes → places_of (layout_of (some vs)) ≡ map (λ v. v.place) vs
+places-are : (vs : List Volume) → length vs ≤ most_volumes → places_of (layout_of (Some vs)) ≡ map (λ v. v.place) vs
 unfolding layout_of
 places-are vs h = stored-are (λ v. v.place) vs h
 
@@ -318,15 +316,15 @@ twelve = refl
 pub tail-is : (s : List ℕ) (at : ℕ) → take (length s - at) (drop at s) ≡ drop at s
 tail-is s at = take_all (length s - at) (drop at s) (omega (arith, length-drop at s))
 
-volumes-walked : (s : List ℕ) → volumes_of s ≡ choose (within 1 most_bytes (length s)) (λ _. sound_volumes (walked s)) (λ _. none)
+volumes-walked : (s : List ℕ) → volumes_of s ≡ choose (within 1 most_bytes (length s)) (λ _. sound_volumes (walked s)) (λ _. None)
 unfolding volumes_of walked
 volumes-walked s = refl
 
-no-layout-is : layout_of none ≡ no_layout
+no-layout-is : layout_of None ≡ no_layout
 unfolding layout_of
 no-layout-is = refl
 
-empty-layout : layout_of (some []) ≡ no_layout
+empty-layout : layout_of (Some []) ≡ no_layout
 unfolding layout_of no_layout
 empty-layout = refl
 
@@ -334,23 +332,23 @@ nothing-told : (s : List ℕ) → (no_layout.count ≤ 12) × (length no_layout.
 unfolding no_layout
 nothing-told s = (omega arith, zeros-long, λ i h. absurd (omega arith))
 
-some-count : (vs : List Volume) → length vs ≤ 12 → (layout_of (some vs)).count ≤ 12
+some-count : (vs : List Volume) → length vs ≤ 12 → (layout_of (Some vs)).count ≤ 12
 unfolding layout_of
 some-count vs h = omega arith
 
-some-long : (vs : List Volume) → length (layout_of (some vs)).places ≡ 12
+some-long : (vs : List Volume) → length (layout_of (Some vs)).places ≡ 12
 unfolding layout_of
 some-long vs = length-sets zeros 0 (map (λ v. v.place) vs) ∙ zeros-long
 
 sound-is : (s : List ℕ) (o : Option (List Volume)) → walked s ≡ o → layout_of (sound_volumes o) ≡ cond (distinct (map (raw_name s) (places_of (layout_of o)))) (layout_of o) no_layout
-sound-is s none e = rw no-layout-is (sym (cond_same (distinct (map (raw_name s) (places_of no_layout))) no_layout))
-sound-is s (some []) e = rw (no-layout-is, empty-layout) (sym (cond_same (distinct (map (raw_name s) (places_of no_layout))) no_layout))
-sound-is s (some (v ∷ vs)) e =
+sound-is s None e = rw no-layout-is (sym (cond_same (distinct (map (raw_name s) (places_of no_layout))) no_layout))
+sound-is s (Some []) e = rw (no-layout-is, empty-layout) (sym (cond_same (distinct (map (raw_name s) (places_of no_layout))) no_layout))
+sound-is s (Some (v ∷ vs)) e =
     let us = v ∷ vs in
     let k = all_placed most_volumes 0 s us (sym (walked-rest s) ∙ e) in
-    let d : distinct (map (raw_name s) (places_of (layout_of (some us)))) ≡ distinct (names_of us) = ap (λ ps. distinct (map (raw_name s) ps)) (places-are us k.1) ∙ same-distinct s us k.0 in
-    ap-cond layout_of (distinct (names_of us)) (some us) none ∙ ap (λ t. cond t (layout_of (some us)) (layout_of none)) (sym d)
-    ∙ ap (cond (distinct (map (raw_name s) (places_of (layout_of (some us))))) (layout_of (some us))) no-layout-is
+    let d : distinct (map (raw_name s) (places_of (layout_of (Some us)))) ≡ distinct (names_of us) = ap (λ ps. distinct (map (raw_name s) ps)) (places-are us k.1) ∙ same-distinct s us k.0 in
+    ap-cond layout_of (distinct (names_of us)) (Some us) None ∙ ap (λ t. cond t (layout_of (Some us)) (layout_of None)) (sym d)
+    ∙ ap (cond (distinct (map (raw_name s) (places_of (layout_of (Some us))))) (layout_of (Some us))) no-layout-is
 
 pub volumes-empty : (s : List ℕ) → length s ≡ 0 → layout_of (volumes_of s) ≡ no_layout
 volumes-empty s h = ap layout_of (volumes-walked s) ∙ rw h no-layout-is
@@ -360,8 +358,8 @@ volumes-long s h = ap layout_of (volumes-walked s) ∙ rw (lt-leb (length s) mos
 
 module _ (s : List ℕ) (l : Layout) (e : l ≡ layout_of (walked s)) where
   told : (o : Option (List Volume)) → walked s ≡ o → ((layout_of o).count ≤ 12) × (length (layout_of o).places ≡ 12) × Ranged s (places_of (layout_of o))
-  told none q = rw no-layout-is (nothing-told s)
-  told (some vs) q =
+  told None q = rw no-layout-is (nothing-told s)
+  told (Some vs) q =
       let k = all_placed most_volumes 0 s vs (sym (walked-rest s) ∙ q) in
       (some-count vs k.1, some-long vs, rw (places-are vs k.1) (ranged-are s vs k.0))
 
@@ -370,7 +368,7 @@ module _ (s : List ℕ) (l : Layout) (e : l ≡ layout_of (walked s)) where
 
   by_names : 1 ≤ length s → length s ≤ most_bytes → layout_of (volumes_of s) ≡ cond (distinct (map (raw_name s) (places_of l))) l no_layout
   by_names h k =
-      ap layout_of (volumes-walked s) ∙ ap (λ t. layout_of (choose t (λ _. sound_volumes (walked s)) (λ _. none))) (and_true (leb 1 (length s)) (leb (length s) most_bytes) (le-leb 1 (length s) h) (le-leb (length s) most_bytes k))
+      ap layout_of (volumes-walked s) ∙ ap (λ t. layout_of (choose t (λ _. sound_volumes (walked s)) (λ _. None))) (and_true (leb 1 (length s)) (leb (length s) most_bytes) (le-leb 1 (length s) h) (le-leb (length s) most_bytes k))
       ∙ sound-is s (walked s) refl ∙ ap (λ l. cond (distinct (map (raw_name s) (places_of l))) l no_layout) (sym e)
 
   pub volumes-differ : 1 ≤ length s → length s ≤ most_bytes → distinct (map (raw_name s) (places_of l)) ≡ true → layout_of (volumes_of s) ≡ l
@@ -389,7 +387,7 @@ pub record Laid (s : List ℕ) (vs : List Volume) (l : Layout) : Type 0 where
   pub placed : AllPlaced s vs
   pub spool : length s ≤ most_bytes
 
-laid-is : (s : List ℕ) (vs : List Volume) → 1 ≤ length vs → Kept s most_volumes vs → length s ≤ most_bytes → Laid s vs (layout_of (some vs))
+laid-is : (s : List ℕ) (vs : List Volume) → 1 ≤ length vs → Kept s most_volumes vs → length s ≤ most_bytes → Laid s vs (layout_of (Some vs))
 unfolding layout_of
 laid-is s vs h k b =
     let e : 0 + length vs ≡ length vs = omega arith in
@@ -403,22 +401,22 @@ laid-is s vs h k b =
       spool = b;
     }
 
-pub volumes-laid : (s : List ℕ) (vs : List Volume) → volumes_of s ≡ some vs → Laid s vs (layout_of (volumes_of s))
+pub volumes-laid : (s : List ℕ) (vs : List Volume) → volumes_of s ≡ Some vs → Laid s vs (layout_of (volumes_of s))
 volumes-laid s vs e = rw e (go (within 1 most_bytes (length s)) refl (walked s) refl (sym (volumes-walked s) ∙ e))
   where
-    pick : {us : List Volume} (t : Bool) → cond t (some us) none ≡ some vs → some us ≡ some vs
+    pick : {us : List Volume} (t : Bool) → cond t (Some us) None ≡ Some vs → Some us ≡ Some vs
     pick true z = z
     pick false z = none-some z
 
-    sound : (us : List Volume) → (t : Bool) → not (is_nil us) ≡ t → length s ≤ most_bytes → walked s ≡ some us → cond (t && distinct (names_of us)) (some us) none ≡ some vs → Laid s vs (layout_of (some vs))
-    sound [] t q b w z = none-some (ap (λ t. cond (t && distinct (names_of [])) (some []) none) q ∙ z)
+    sound : (us : List Volume) → (t : Bool) → not (is_nil us) ≡ t → length s ≤ most_bytes → walked s ≡ Some us → cond (t && distinct (names_of us)) (Some us) None ≡ Some vs → Laid s vs (layout_of (Some vs))
+    sound [] t q b w z = none-some (ap (λ t. cond (t && distinct (names_of [])) (Some []) None) q ∙ z)
     sound (u ∷ us) false q b w z = none-some z
     sound (u ∷ us) true q b w z =
-        let f : some (u ∷ us) ≡ some vs = pick (distinct (names_of (u ∷ us))) z in
+        let f : Some (u ∷ us) ≡ Some vs = pick (distinct (names_of (u ∷ us))) z in
         let g : (u ∷ us) ≡ vs = cc in
-        subst (λ us. Laid s us (layout_of (some us))) g (laid-is s (u ∷ us) (omega arith) (all_placed most_volumes 0 s (u ∷ us) (sym (walked-rest s) ∙ w)) b)
+        subst (λ us. Laid s us (layout_of (Some us))) g (laid-is s (u ∷ us) (omega arith) (all_placed most_volumes 0 s (u ∷ us) (sym (walked-rest s) ∙ w)) b)
 
-    go : (t : Bool) → within 1 most_bytes (length s) ≡ t → (o : Option (List Volume)) → walked s ≡ o → choose t (λ _. sound_volumes o) (λ _. none) ≡ some vs → Laid s vs (layout_of (some vs))
+    go : (t : Bool) → within 1 most_bytes (length s) ≡ t → (o : Option (List Volume)) → walked s ≡ o → choose t (λ _. sound_volumes o) (λ _. None) ≡ Some vs → Laid s vs (layout_of (Some vs))
     go false q o w z = none-some z
-    go true q none w z = none-some z
-    go true q (some us) w z = sound us (not (is_nil us)) refl (leb-true (length s) most_bytes (and_right (leb 1 (length s)) (leb (length s) most_bytes) q)) w z
+    go true q None w z = none-some z
+    go true q (Some us) w z = sound us (not (is_nil us)) refl (leb-true (length s) most_bytes (and_right (leb 1 (length s)) (leb (length s) most_bytes) q)) w z

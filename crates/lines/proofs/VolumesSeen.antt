@@ -1,8 +1,8 @@
 -- What a layout says of each volume of a spool: laws for those who walk from volume to volume.
+use Rattle.std.specs.Prelude.{Option, Some, None}
 use Prim.Native.Nat.{ℕ, zero, suc, ◌+◌, ◌-◌, ◌<◌, ◌≤◌}
 use mathlib.Core.Path.{◌≡◌, refl, ap, sym, subst, ◌∙◌}
 use mathlib.Core.List.{List, [], ◌∷◌, ◌++◌, map}
-use mathlib.Core.Option.{Option, none, some}
 use native.Mathlib.Omega.{arith}
 use lib.ListN.{length, get_or, take, drop, length-drop}
 use lib.Seq.{get_or-take, drop-drop}
@@ -41,7 +41,7 @@ placed-nth s [] (suc i) v us e p = absurd (let z : ◌≡◌ {A = ℕ} 0 1 = cc 
 placed-nth s (w ∷ vs) zero v us e p = let q : w ≡ v = cc in rw (← q) p.0
 placed-nth s (w ∷ vs) (suc i) v us e p = placed-nth s vs i v us e p.1
 
-module _ (s : List ℕ) (vs : List Volume) (e : volumes_of s ≡ some vs) where
+module _ (s : List ℕ) (vs : List Volume) (e : volumes_of s ≡ Some vs) where
   pub volume_in : (i : ℕ) (v : Volume) (us : List Volume) → drop i vs ≡ v ∷ us → VolumeIn s (layout_of (volumes_of s)) i v
   volume_in i v us d =
       let l = layout_of (volumes_of s) in
@@ -62,7 +62,7 @@ module _ (s : List ℕ) (vs : List Volume) (e : volumes_of s ≡ some vs) where
 -- ── rule 3 over all volumes ──
 pub record Lined (v : Volume) : Type 0 where
   pub lines : List (List ℕ)
-  pub are : lines_of v.body ≡ some lines
+  pub are : lines_of v.body ≡ Some lines
 
 abbrev pub AllLined : List Volume → Type 0
 AllLined [] = Unit {0}
@@ -74,14 +74,14 @@ Tells k vs zero = AllLined vs
 Tells k vs (suc n) = list_volumes k vs ≡ no_lines (suc n)
 
 -- one volume's lines before the others
-tells_more : (k : ℕ) (v : Volume) (vs : List Volume) (ls : List (List ℕ)) (n : ℕ) → lines_of v.body ≡ some ls → Tells (suc k) vs n → Tells k (v ∷ vs) n
+tells_more : (k : ℕ) (v : Volume) (vs : List Volume) (ls : List (List ℕ)) (n : ℕ) → lines_of v.body ≡ Some ls → Tells (suc k) vs n → Tells k (v ∷ vs) n
 tells_more k v vs ls zero e h = (record { lines = ls; are = e }, h)
 tells_more k v vs ls (suc n) e h = rw (e, h)
 
-tells-here : (k : ℕ) (v : Volume) (vs : List Volume) → lines_of v.body ≡ none → Tells (suc k) (v ∷ vs) (suc k)
+tells-here : (k : ℕ) (v : Volume) (vs : List Volume) → lines_of v.body ≡ None → Tells (suc k) (v ∷ vs) (suc k)
 tells-here k v vs e = rw e
 
-module _ (s : List ℕ) (vs : List Volume) (e : volumes_of s ≡ some vs) where
+module _ (s : List ℕ) (vs : List Volume) (e : volumes_of s ≡ Some vs) where
   sound-body : (i : ℕ) (v : Volume) (us : List Volume) → drop i vs ≡ v ∷ us → sound_in s (layout_of (volumes_of s)) i ≡ is_some (lines_of v.body)
   sound-body i v us d =
       let l = layout_of (volumes_of s) in
@@ -106,11 +106,11 @@ module _ (s : List ℕ) (vs : List Volume) (e : volumes_of s ≡ some vs) where
     where
       go : i < most_volumes → i < (layout_of (volumes_of s)).count → (o : Option (List (List ℕ))) → lines_of v.body ≡ o → sound_in s (layout_of (volumes_of s)) i ≡ is_some (lines_of v.body)
           → Tells (suc (i + 1)) us (unsound_from s (layout_of (volumes_of s)) (most_volumes - (i + 1)) (i + 1)) → Tells (suc i) (v ∷ us) (unsound_from s (layout_of (volumes_of s)) (most_volumes - i) i)
-      go m c none q b ih =
+      go m c None q b ih =
           let l = layout_of (volumes_of s) in
           let z : unsound_from s l (most_volumes - i) i ≡ suc i = unsound-here s l i m c (b ∙ ap is_some q) ∙ (omega arith) in
           subst (Tells (suc i) (v ∷ us)) (sym z) (tells-here i v us q)
-      go m c (some ls) q b ih =
+      go m c (Some ls) q b ih =
           let l = layout_of (volumes_of s) in
           let k : i + 1 ≡ suc i = omega arith in
           subst (Tells (suc i) (v ∷ us)) (sym (unsound-later s l i m c (b ∙ ap is_some q)))

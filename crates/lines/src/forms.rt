@@ -7,7 +7,7 @@ ghost use Rattle.lines.specs.LineSketch.{keyless_sketch, bare_kind, equal_sketch
 
 use crate::ends::cr_from;
 use crate::runs::{clean_run, indent, key_run, opens_at};
-use crate::{Look, MOST_BYTES, Seen};
+use crate::{MOST_BYTES, Seen};
 use leaves::bytes::spells;
 use rules::{Equation, LineForm, Opener, Refusal, Span};
 
@@ -203,12 +203,12 @@ fn line_form(l: &[u8], at: u32, volume: u8, line: u32) -> LineForm
 }
 
 // A line with this form, its CR at a place.
-fn seen(form: LineForm, cr: u32, end: u32) -> Look
+fn seen(form: LineForm, cr: u32, end: u32) -> Option<Seen>
     requires { cr < 61440 }
     ensures { result ≡ seen_at form cr end }
 {
     let next = cr + 2;
-    Look::Line(Seen {
+    Some(Seen {
         form: form,
         next: next,
         last: next + 1 == end,
@@ -217,25 +217,25 @@ fn seen(form: LineForm, cr: u32, end: u32) -> Look
 
 // The line that starts at a place of the spool, in a volume whose bytes stand there from `base` on; other places are those of no line.
 // Bytes that break rule 3 have lines too: each up to the next CR, with one byte behind it.
-pub fn look(body: &[u8], base: u32, at: u32, volume: u8, line: u32) -> Look
+pub fn look(body: &[u8], base: u32, at: u32, volume: u8, line: u32) -> Option<Seen>
     ensures { result ≡ look_in volume line base at body.now }
 {
     if MOST_BYTES < body.len() {
-        return Look::End;
+        return None;
     }
     if MOST_BYTES - body.len() < base as usize {
-        return Look::End;
+        return None;
     }
     if at < base {
-        return Look::End;
+        return None;
     }
     let from = (at - base) as usize;
     if body.len() < from {
-        return Look::End;
+        return None;
     }
     let to = cr_from(body, from);
     if to == body.len() {
-        return Look::End;
+        return None;
     }
     let form = line_form(&body[from..to], at, volume, line);
     seen(form, base + to as u32, base + body.len() as u32)

@@ -3,13 +3,6 @@
 
 use rules::LineForm;
 
-// What stands before a volume: a good head and how many bytes it says follow, or something else.
-#[derive(Clone, Copy)]
-pub enum Head {
-    Holds(u32),
-    Bad,
-}
-
 // Where a spool's volumes stand: how many there are, and for each the place of its first byte and its length; zeros behind them.
 // A spool that refusal 2 holds of has none.
 #[derive(Clone, Copy)]
@@ -25,12 +18,6 @@ pub struct Seen {
     pub form: LineForm,
     pub next: u32,
     pub last: bool,
-}
-
-#[derive(Clone, Copy)]
-pub enum Look {
-    End,
-    Line(Seen),
 }
 
 // No spool has more bytes, and so no volume.

@@ -5,32 +5,32 @@ ghost use Rattle.lines.specs.VolumeNames.{name_at};
 ghost use Rattle.lines.specs.VolumePlaces.{head_in, no_layout, layout_of, walked};
 
 use crate::names::{good_name, names_differ};
-use crate::{Head, Layout, MOST_BYTES, MOST_VOLUMES, SPACE};
+use crate::{Layout, MOST_BYTES, MOST_VOLUMES, SPACE};
 use leaves::bytes::find;
 
 const HEAD_BYTES: usize = 12;
 
 // The head that the bytes start with: mark, name, and a length that the bytes behind it have.
-pub fn head_of(s: &[u8]) -> Head
+pub fn head_of(s: &[u8]) -> Option<u32>
     ensures { result ≡ head_in s.now }
 {
     if s.len() < HEAD_BYTES {
-        return Head::Bad;
+        return None;
     }
     if s[0] != b'V' {
-        return Head::Bad;
+        return None;
     }
     if s[1] != b'P' {
-        return Head::Bad;
+        return None;
     }
     if !good_name(&s[2..10]) {
-        return Head::Bad;
+        return None;
     }
     let n = s[10] as u32 * 256 + s[11] as u32;
     if s.len() - HEAD_BYTES < n as usize {
-        return Head::Bad;
+        return None;
     }
-    Head::Holds(n)
+    Some(n)
 }
 
 fn no_layout() -> Layout
@@ -56,7 +56,7 @@ fn walk(s: &[u8]) -> Layout
         if count == MOST_VOLUMES {
             return no_layout();
         }
-        let Head::Holds(n) = head_of(&s[at..]) else {
+        let Some(n) = head_of(&s[at..]) else {
             return no_layout();
         };
         let body = at + HEAD_BYTES;

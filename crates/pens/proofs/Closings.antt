@@ -1,4 +1,5 @@
 -- What a line `}` does, by the block that is open.
+use Rattle.std.specs.Prelude.{Result, Ok, Err}
 use Prim.Native.Nat.{ℕ, zero, suc, ◌+◌, ◌≤◌, ◌<◌}
 use mathlib.Core.Bool.{Bool, true, false, cond, not, ◌||◌}
 use mathlib.Core.List.{List, [], ◌∷◌, ◌++◌}
@@ -14,8 +15,6 @@ use Rattle.rules.specs.RecordTable.{rule_at}
 use Rattle.rules.proofs.Chains.{clash, and_false}
 use Rattle.tables.specs.Tables.{table_of}
 use Rattle.pens.specs.declared.Pen.{Pen}
-use Rattle.pens.specs.declared.Drawn.{Drawn}
-use Rattle.pens.specs.declared.Drawn.TheVariants as D
 use Rattle.pens.specs.Texts.{Draws, Safe}
 use Rattle.pens.specs.Moves.{moved}
 use Rattle.pens.specs.Noting.{NotedRows, tables_of, notes_from, part_table, NotedParts}
@@ -24,6 +23,8 @@ use Rattle.pens.specs.Writing.{Named, noted_base}
 use Rattle.pens.specs.KeyWriting.{Kept}
 use Rattle.pens.proofs.Writers.{drawn-none, kept-moved}
 use Rattle.pens.proofs.KeyRows.{part_open}
+use Rattle.leaves.specs.declared.NoRoom.{NoRoom}
+use Rattle.leaves.specs.NoRoom.{no_room}
 
 -- ── the `}` behind what was written ──
 -- the pen further on, in another block
@@ -31,7 +32,7 @@ abbrev pen_at : Pen → ℕ → ℕ → Pen
 pen_at p block at = record { block = block; part = 0; layered = p.layered; start = p.start; at = at }
 
 module _ (pen p : Pen) (n b : ℕ) (e : p ≡ moved pen n b 0) where
-  pub shut_at : (m block place : ℕ) (mid last : List ℕ) (d : Drawn) → m ≡ n + 3 → place ≡ pen.at + n → Shuts p block mid last d
+  pub shut_at : (m block place : ℕ) (mid last : List ℕ) (d : Result Pen NoRoom) → m ≡ n + 3 → place ≡ pen.at + n → Shuts p block mid last d
       → Draws shut_bytes place (moved pen m block 0) mid last d
   shut_at m block place mid last d s a w =
       subst (λ (k : ℕ). Draws shut_bytes k (moved pen m block 0) mid last d) (sym a)
@@ -42,7 +43,7 @@ module _ (pen p : Pen) (n b : ℕ) (e : p ≡ moved pen n b 0) where
   safe-there out s h = subst (λ (x : Pen). Safe x out) (sym e) record { begun = omega (arith, s); within = h }
 
 -- no room for what comes before the `}`
-pub shut_none : (x : List ℕ) (a : ℕ) (next : Pen) (before after : List ℕ) → length before < a + length x → Draws (x ++ shut_bytes) a next before after D.Full
+pub shut_none : (x : List ℕ) (a : ℕ) (next : Pen) (before after : List ℕ) → length before < a + length x → Draws (x ++ shut_bytes) a next before after (Err no_room)
 shut_none x a next before after h = drawn-none (x ++ shut_bytes) a next before after (omega (arith, h, length-append x shut_bytes))
 
 -- ── the noted rows ──
@@ -84,7 +85,7 @@ file-base b true e = ap noted_base e
 file-base b false e = ap noted_base e
 
 -- ── by the block that is open ──
-module _ (spool : List ℕ) (first : Bool) (p : Pen) (ns before after : List ℕ) (d : Drawn) where
+module _ (spool : List ℕ) (first : Bool) (p : Pen) (ns before after : List ℕ) (d : Result Pen NoRoom) where
   -- no other block is
   other : {P : Type 0} (a b : ℕ) → eqb a b ≡ false → p.block ≡ a → p.block ≡ b → P
   other a b t h e = clash (eq-eqb a b (sym h ∙ e)) t
@@ -284,35 +285,35 @@ module _ (spool : List ℕ) (first : Bool) (p : Pen) (ns before after : List ℕ
 
 -- an inner part of FILE_FORMAT, of a placed symbol or of a wire closes
 pub done-part : (spool : List ℕ) (first : Bool) (p q : Pen) (ns out : List ℕ) → in_part p ≡ true → q ≡ part_closed p
-    → CloseDone spool first p ns out out (D.Go q)
+    → CloseDone spool first p ns out out (Ok q)
 done-part spool first p q ns out o e = go (eqb p.block 1) refl (eqb p.block 12) refl (eqb p.block 11) refl
   where
     some : 1 ≤ p.part
     some = part_open p o
 
-    go : (a : Bool) → eqb p.block 1 ≡ a → (w : Bool) → eqb p.block 12 ≡ w → (b : Bool) → eqb p.block 11 ≡ b → CloseDone spool first p ns out out (D.Go q)
+    go : (a : Bool) → eqb p.block 1 ≡ a → (w : Bool) → eqb p.block 12 ≡ w → (b : Bool) → eqb p.block 11 ≡ b → CloseDone spool first p ns out out (Ok q)
     go true f w i b g =
         let h : p.block ≡ 1 = eqb-true p.block 1 f in
-        done-file-part spool first p ns out out (D.Go q) h some (λ i s. (ap D.Go (e ∙ rw h (ap (λ (x : ℕ). moved p 0 1 (around x)) s)), refl))
+        done-file-part spool first p ns out out (Ok q) h some (λ i s. (ap Ok (e ∙ rw h (ap (λ (x : ℕ). moved p 0 1 (around x)) s)), refl))
     go false f true i b g =
         let h : p.block ≡ 12 = eqb-true p.block 12 i in
-        done-wire-text spool first p ns out out (D.Go q) h some (λ i s. (ap D.Go (e ∙ rw h), refl))
+        done-wire-text spool first p ns out out (Ok q) h some (λ i s. (ap Ok (e ∙ rw h), refl))
     go false f false i true g =
         let h : p.block ≡ 11 = eqb-true p.block 11 g in
-        done-placed-text spool first p ns out out (D.Go q) h some (λ i s. (ap D.Go (e ∙ rw h), refl))
+        done-placed-text spool first p ns out out (Ok q) h some (λ i s. (ap Ok (e ∙ rw h), refl))
     go false f false i false g = clash o (rw (f, i, g) (and_false (not (eqb p.part 0))))
 
-pub part-kept : (out : List ℕ) (p q : Pen) → Safe p out → q ≡ part_closed p → Kept out out (D.Go q)
+pub part-kept : (out : List ℕ) (p q : Pen) → Safe p out → q ≡ part_closed p → Kept out out (Ok q)
 part-kept out p q s e = go (eqb p.block 1) (eqb p.block 12) e
   where
-    go : (b c : Bool) → q ≡ cond b (moved p 0 1 (around p.part)) (cond c (moved p 0 12 0) (moved p 0 11 0)) → Kept out out (D.Go q)
+    go : (b c : Bool) → q ≡ cond b (moved p 0 1 (around p.part)) (cond c (moved p 0 12 0) (moved p 0 11 0)) → Kept out out (Ok q)
     go true c e = kept-moved out p q 1 (around p.part) s e
     go false true e = kept-moved out p q 12 0 s e
     go false false e = kept-moved out p q 11 0 s e
 
 -- ── no wire closes ──
-pub no-wire : (spool body : List ℕ) (start from : ℕ) (p : Pen) (ns before after : List ℕ) (d : Drawn) (b : ℕ) → eqb b 12 ≡ false → p.block ≡ b → WireDone spool body start from p ns before after d
+pub no-wire : (spool body : List ℕ) (start from : ℕ) (p : Pen) (ns before after : List ℕ) (d : Result Pen NoRoom) (b : ℕ) → eqb b 12 ≡ false → p.block ≡ b → WireDone spool body start from p ns before after d
 no-wire spool body start from p ns before after d b t e h = clash (eq-eqb b 12 (sym e ∙ h)) t
 
-pub not_itself : (spool body : List ℕ) (start from : ℕ) (p : Pen) (ns before after : List ℕ) (d : Drawn) → in_part p ≡ true → WireDone spool body start from p ns before after d
+pub not_itself : (spool body : List ℕ) (start from : ℕ) (p : Pen) (ns before after : List ℕ) (d : Result Pen NoRoom) → in_part p ≡ true → WireDone spool body start from p ns before after d
 not_itself spool body start from p ns before after d o h z = absurd (omega (arith, part_open p o, z))

@@ -1,4 +1,5 @@
 -- What a line with a key does, by the block that is open and the row that it was found under.
+use Rattle.std.specs.Prelude.{Option, Some, None, Result, Ok}
 use Prim.Native.Nat.{ℕ, zero, suc, ◌+◌, ◌≤◌}
 use mathlib.Core.Bool.{Bool, true, false, cond, not, ◌||◌}
 use mathlib.Core.List.{List, [], ◌∷◌}
@@ -14,15 +15,11 @@ use Rattle.rules.specs.FixedForm.{opens_block, line_of}
 use Rattle.rules.proofs.Chains.{and_left}
 use Rattle.rules.proofs.Rows.{found-row, row_at}
 use Rattle.tables.specs.declared.Row.{Row}
-use Rattle.tables.specs.declared.Found.{Found as Finding}
-use Rattle.tables.specs.declared.Found.TheVariants as F
 use Rattle.tables.specs.Rows.{kind_of, rule_of, for_line, found_for_line, found_of}
 use Rattle.tables.specs.Tables.{table_of}
 use Rattle.entries.specs.declared.Rest.{Rest}
 use Rattle.keywords.specs.Keys.{key_at}
 use Rattle.pens.specs.declared.Pen.{Pen}
-use Rattle.pens.specs.declared.Drawn.{Drawn}
-use Rattle.pens.specs.declared.Drawn.TheVariants as D
 use Rattle.pens.specs.Texts.{ended, Draws}
 use Rattle.pens.specs.Moves.{moved, at_once, figure_block, key_pen, file_pen, placed_pen, is_element, wire_pen, table_for}
 use Rattle.pens.specs.Noting.{note_of, notes_from, forgotten, text_forgotten, figure_notes, key_notes}
@@ -32,6 +29,7 @@ use Rattle.pens.specs.Writing.{IsRow}
 use Rattle.pens.specs.Closing.{in_part}
 use Rattle.pens.proofs.RowsNoted.{kind-closed, inner-is}
 use Rattle.pens.proofs.Writers.{drawn-nothing}
+use Rattle.leaves.specs.declared.NoRoom.{NoRoom}
 
 -- ── notes ──
 pub set_beyond : (l : List ℕ) (i v : ℕ) → length l ≤ i → set l i v ≡ l
@@ -105,7 +103,7 @@ module _ (t : ℕ) (p : Pen) (rest : Rest) (k : Known) (j : ℕ) (q : Rule) (v :
   abbrev notes_by : List ℕ
   notes_by = key_notes p t j q.holds (inner_of q.holds) (note_of rest) ns₀
 
-  pub written : (next : ℕ → Pen) (before after : List ℕ) (d : Drawn) → at_once p j ≡ true → pen_by (length line) ≡ next (length line) → ns₁ ≡ notes_by
+  pub written : (next : ℕ → Pen) (before after : List ℕ) (d : Result Pen NoRoom) → at_once p j ≡ true → pen_by (length line) ≡ next (length line) → ns₁ ≡ notes_by
       → Draws line p.at (next (length line)) before after d → KeyDone t p rest k j q v ns₀ ns₁ before after d
   written next before after d a e n w = record {
     draws =
@@ -114,11 +112,11 @@ module _ (t : ℕ) (p : Pen) (rest : Rest) (k : Known) (j : ℕ) (q : Rule) (v :
     notes = n;
   }
 
-  pub held_back : (next : Pen) (out : List ℕ) → p.at ≤ length out → at_once p j ≡ false → pen_by 0 ≡ next → ns₁ ≡ notes_by → KeyDone t p rest k j q v ns₀ ns₁ out out (D.Go next)
+  pub held_back : (next : Pen) (out : List ℕ) → p.at ≤ length out → at_once p j ≡ false → pen_by 0 ≡ next → ns₁ ≡ notes_by → KeyDone t p rest k j q v ns₀ ns₁ out out (Ok next)
   held_back next out h a e n = record {
     draws =
-        subst (λ (b : Bool). Draws (cond b line []) p.at (pen_by (length (cond b line []))) out out (D.Go next)) (sym a)
-        (subst (λ (x : Pen). Draws [] p.at x out out (D.Go next)) (sym e) (drawn-nothing p.at next out h));
+        subst (λ (b : Bool). Draws (cond b line []) p.at (pen_by (length (cond b line []))) out out (Ok next)) (sym a)
+        (subst (λ (x : Pen). Draws [] p.at x out out (Ok next)) (sym e) (drawn-nothing p.at next out h));
     notes = n;
   }
 
@@ -157,7 +155,7 @@ opened-inner row q v e = subst P (ap (λ (r : Rule). r.holds) e) (inner-is row v
 abbrev blank : Rule
 blank = plain "" (opens 0) 0
 
-pub found-is : (key : List ℕ) (t j : ℕ) (q : Rule) (row : Row) → found_for_line (find key (table_of t)) ≡ found_of (F.Row row) → find key (table_of t) ≡ found j q → IsRow t j q row
+pub found-is : (key : List ℕ) (t j : ℕ) (q : Rule) (row : Row) → found_for_line (find key (table_of t)) ≡ found_of (Some row) → find key (table_of t) ≡ found j q → IsRow t j q row
 found-is key t j q row e f =
     let z : found j (for_line q) ≡ found row.number (rule_of row) = ap found_for_line (sym f) ∙ e in
     let number : j ≡ row.number = cc in
@@ -170,7 +168,7 @@ found-is key t j q row e f =
     }
 
 -- a row that is in the table was found
-pub found_none : {P : Type 0} (key : List ℕ) (t j : ℕ) (q : Rule) → found_for_line (find key (table_of t)) ≡ found_of F.Absent → find key (table_of t) ≡ found j q → P
+pub found_none : {P : Type 0} (key : List ℕ) (t j : ℕ) (q : Rule) → found_for_line (find key (table_of t)) ≡ found_of None → find key (table_of t) ≡ found j q → P
 found_none key t j q e f = absurd (let z : found j (for_line q) ≡ absent = ap found_for_line (sym f) ∙ e in let z : ◌≡◌ {A = ℕ} 0 1 = cc in omega arith)
 
 -- ── figures ──
@@ -184,12 +182,12 @@ pub figure-is : (t n : ℕ) (q : Rule) (row : Row) (b : ℕ) → b ≡ figure_bl
 figure-is t n q row b e i = e ∙ ap (λ (d : Kind). figure_block d (inner_of d)) (holds-is t n q row i)
 
 -- ── the table by its number ──
-module _ (p : Pen) (rest : Rest) (k : Known) (q : Rule) (v : Value) (ns₀ ns₁ before after : List ℕ) (d : Drawn) (row : Row) where
+module _ (p : Pen) (rest : Rest) (k : Known) (q : Rule) (v : Value) (ns₀ ns₁ before after : List ℕ) (d : Result Pen NoRoom) (row : Row) where
   pub of-table : (t u : ℕ) → t ≡ u → (IsRow u row.number q row → KeyDone u p rest k row.number q v ns₀ ns₁ before after d) → IsRow t row.number q row
       → KeyDone t p rest k row.number q v ns₀ ns₁ before after d
   of-table t u e f i = subst (λ (x : ℕ). KeyDone x p rest k row.number q v ns₀ ns₁ before after d) (sym e) (f (subst (λ (x : ℕ). IsRow x row.number q row) e i))
 
-  pub on_row : (given key : List ℕ) (table t j : ℕ) (r : Finding) → given ≡ key → table ≡ t → r ≡ F.Row row → found_for_line (find given (table_of table)) ≡ found_of r
+  pub on_row : (given key : List ℕ) (table t j : ℕ) (r : Option Row) → given ≡ key → table ≡ t → r ≡ Some row → found_for_line (find given (table_of table)) ≡ found_of r
       → find key (table_of t) ≡ found j q → (IsRow table row.number q row → KeyDone table p rest k row.number q v ns₀ ns₁ before after d) → KeyDone t p rest k j q v ns₀ ns₁ before after d
   on_row given key table t j r a b c e f g =
       let there : find given (table_of table) ≡ found j q = ap (λ (x : List ℕ). find x (table_of table)) a ∙ ap (λ (x : ℕ). find key (table_of x)) b ∙ f in
@@ -198,7 +196,7 @@ module _ (p : Pen) (rest : Rest) (k : Known) (q : Rule) (v : Value) (ns₀ ns₁
       subst (λ (x : ℕ). KeyDone x p rest k j q v ns₀ ns₁ before after d) b
       (subst (λ (x : ℕ). KeyDone table p rest k x q v ns₀ ns₁ before after d) i.number_is (g here))
 
-pub no_row : {P : Type 0} (given key : List ℕ) (table t j : ℕ) (q : Rule) (r : Finding) → given ≡ key → table ≡ t → r ≡ F.Absent → found_for_line (find given (table_of table)) ≡ found_of r
+pub no_row : {P : Type 0} (given key : List ℕ) (table t j : ℕ) (q : Rule) (r : Option Row) → given ≡ key → table ≡ t → r ≡ None → found_for_line (find given (table_of table)) ≡ found_of r
     → find key (table_of t) ≡ found j q → P
 no_row given key table t j q r a b c e f =
     found_none given table j q (e ∙ ap found_of c) (ap (λ (x : List ℕ). find x (table_of table)) a ∙ ap (λ (x : ℕ). find key (table_of x)) b ∙ f)

@@ -1,8 +1,8 @@
 -- All keys of a wire behind its elements, one row after the other.
+use Rattle.std.specs.Prelude.{Option, Some, None, Result, Ok, Err}
 use Prim.Native.Nat.{ℕ, zero, suc, ◌+◌, ◌-◌, ◌≤◌, ◌<◌}
 use mathlib.Core.Bool.{true}
 use mathlib.Core.List.{List, [], ◌++◌, append-nil}
-use mathlib.Core.Option.{Option, none, some}
 use mathlib.Core.Path.{◌≡◌, refl, sym, ◌∙◌, ap, subst}
 use native.Mathlib.Omega.{arith}
 use borrow.Rule.Slice.PartMut.{put_mid}
@@ -12,8 +12,6 @@ use Rattle.rules.specs.Rows.{Rule}
 use Rattle.rules.specs.Figures.{wire_table}
 use Rattle.rules.specs.RecordTable.{rule_at}
 use Rattle.rules.specs.FixedForm.{Text, no_inner, line_of, show_slot}
-use Rattle.leaves.specs.declared.Wrote.{Wrote}
-use Rattle.leaves.specs.declared.Wrote.TheVariants as W
 use Rattle.tables.specs.Tables.{table_of}
 use Rattle.prints.specs.Printing.{Prints, Within}
 use Rattle.pens.specs.Texts.{ended, line_bytes}
@@ -26,6 +24,8 @@ use Rattle.pens.proofs.Behind.{prints-none, prints-full}
 use Rattle.pens.proofs.ShownLaws.{opens_nothing, opens_not}
 use Rattle.pens.proofs.Writers.{kept-long, room-left}
 use Rattle.pens.proofs.PassLaws.{Front, front-more, front-full, front-prints}
+use Rattle.leaves.specs.declared.NoRoom.{NoRoom}
+use Rattle.leaves.specs.NoRoom.{no_room}
 
 -- ── rows that stand once ──
 pub record OnceRow (j : ℕ) : Type 0 where
@@ -47,28 +47,28 @@ once-row (suc (suc (suc (suc (suc (suc (suc (suc (suc zero))))))))) l h = record
 once-row (suc (suc (suc (suc (suc (suc (suc (suc (suc (suc j)))))))))) l h = absurd (omega (arith, h))
 
 slot-bytes : (k : Known) (q : Rule) (o : Option Value) → opens_nothing q ≡ true → line_bytes (show_slot k q o no_inner []) ≡ row_bytes k q o
-slot-bytes k q none e = refl
-slot-bytes k q (some v) e = rw (opens_not q v e) (append-nil (ended (line_of k q v)))
+slot-bytes k q None e = refl
+slot-bytes k q (Some v) e = rw (opens_not q v e) (append-nil (ended (line_of k q v)))
 
 -- a row that is not noted
-not_there : (spool : List ℕ) (k : Known) (q : Rule) (n : ℕ) (o : Option Value) → Noted spool k q n o → n ≡ 0 → o ≡ none
-not_there spool k q n none z e = refl
-not_there spool k q n (some v) z e = absurd (omega (arith, z.0, e))
+not_there : (spool : List ℕ) (k : Known) (q : Rule) (n : ℕ) (o : Option Value) → Noted spool k q n o → n ≡ 0 → o ≡ None
+not_there spool k q n None z e = refl
+not_there spool k q n (Some v) z e = absurd (omega (arith, z.0, e))
 
 -- ── the lines of one row ──
 module _ (spool body : List ℕ) (start from j : ℕ) (ns : List ℕ) where
-  pub lines_none : (note : ℕ) (before : List ℕ) → note ≡ get_or ns (6 + j) 0 → note ≡ 0 → PrintsLines spool body start from j ns before before (W.Bytes 0)
+  pub lines_none : (note : ℕ) (before : List ℕ) → note ≡ get_or ns (6 + j) 0 → note ≡ 0 → PrintsLines spool body start from j ns before before (Ok 0)
   lines_none note before e z k t lo hi w = room j 5
       (λ le. nothing (w.absent j lo le (sym e ∙ z)))
       (λ lt. nothing (w.once j lt hi ∙ ap (λ (o : Option Value). show_slot k (rule_at wire_table j) o no_inner []) (not_there spool k (rule_at wire_table j) (get_or ns (6 + j) 0) (w.value j) (w.noted j lt hi) (sym e ∙ z))))
     where
-      nothing : t j ≡ [] → Prints (line_bytes (t j)) before before (W.Bytes 0)
-      nothing q = subst (λ (u : Text). Prints (line_bytes u) before before (W.Bytes 0)) (sym q) (prints-none before)
+      nothing : t j ≡ [] → Prints (line_bytes (t j)) before before (Ok 0)
+      nothing q = subst (λ (u : Text). Prints (line_bytes u) before before (Ok 0)) (sym q) (prints-none before)
 
-  pub lines_pass : (before after : List ℕ) (r : Wrote) → j ≤ 5 → PrintsPass spool body start from j before after r → PrintsLines spool body start from j ns before after r
+  pub lines_pass : (before after : List ℕ) (r : Result ℕ NoRoom) → j ≤ 5 → PrintsPass spool body start from j before after r → PrintsLines spool body start from j ns before after r
   lines_pass before after r le p k t lo hi w = p k w.lines (t j) w.there (w.passes j lo le)
 
-  pub lines_noted : (note : ℕ) (before after : List ℕ) (r : Wrote) → note ≡ get_or ns (6 + j) 0 → 5 < j → PrintsNoted spool 20 j note before after r → PrintsLines spool body start from j ns before after r
+  pub lines_noted : (note : ℕ) (before after : List ℕ) (r : Result ℕ NoRoom) → note ≡ get_or ns (6 + j) 0 → 5 < j → PrintsNoted spool 20 j note before after r → PrintsLines spool body start from j ns before after r
   lines_noted note before after r e lt p k t lo hi w =
       let q = rule_at wire_table j in
       let x = once-row j lt hi in
@@ -94,15 +94,15 @@ module _ (spool body : List ℕ) (start from : ℕ) (ns before : List ℕ) where
   }
 
   module _ (n j : ℕ) (out : List ℕ) (x : Keyed spool body start from ns before n j out) where
-    pub keys-within : Within before out (W.Bytes n)
+    pub keys-within : Within before out (Ok n)
     keys-within = record { long = x.long; within = λ m e. let z : n ≡ m = cc in omega (arith, z, x.within) }
 
-    pub keys-end : 10 ≤ j → PrintsKeys spool body start from ns before out (W.Bytes n)
+    pub keys-end : 10 ≤ j → PrintsKeys spool body start from ns before out (Ok n)
     keys-end h k t w =
         let ten : j - 2 ≡ 8 = omega (arith, h, x.high) in
         front-prints (line_bytes (keys_text t 8)) n before out (subst (λ (m : ℕ). Front (line_bytes (keys_text t m)) n before out) ten (x.front k t w))
 
-    module _ (lt : j < 10) (mid : List ℕ) (r : Wrote) (p : PrintsLines spool body start from j ns (take (length out - n) (drop n out)) mid r) where
+    module _ (lt : j < 10) (mid : List ℕ) (r : Result ℕ NoRoom) (p : PrintsLines spool body start from j ns (take (length out - n) (drop n out)) mid r) where
       there : n ≤ length out
       there = omega (arith, x.within, x.long)
 
@@ -112,7 +112,7 @@ module _ (spool body : List ℕ) (start from : ℕ) (ns before : List ℕ) where
           let b : 2 + (j - 2) ≡ j = omega (arith, x.low) in
           ap (keys_text t) a ∙ ap (λ (m : ℕ). keys_text t (j - 2) ++ t m) b
 
-      pub keys-more : (m : ℕ) → r ≡ W.Bytes m → Within (take (length out - n) (drop n out)) mid r → Keyed spool body start from ns before (n + m) (j + 1) (put_mid n (length out - n) out mid)
+      pub keys-more : (m : ℕ) → r ≡ Ok m → Within (take (length out - n) (drop n out)) mid r → Keyed spool body start from ns before (n + m) (j + 1) (put_mid n (length out - n) out mid)
       keys-more m e i = record {
         long = kept-long out n there mid r i ∙ x.long;
         within = omega (arith, room-left out n there mid r i m e, x.long);
@@ -125,7 +125,7 @@ module _ (spool body : List ℕ) (start from : ℕ) (ns before : List ℕ) where
       }
 
       -- there is no room for this row, and so none for all
-      pub keys-full : r ≡ W.Full → (after : List ℕ) → PrintsKeys spool body start from ns before after W.Full
+      pub keys-full : r ≡ (Err no_room) → (after : List ℕ) → PrintsKeys spool body start from ns before after (Err no_room)
       keys-full e after k t w =
           let full = front-full (line_bytes (keys_text t (j - 2))) n before out there (x.front k t w) (line_bytes (t j)) mid r (p k t x.low lt w) e in
           let here : length (line_bytes (keys_text t (j + 1 - 2))) ≡ length (line_bytes (keys_text t (j - 2)) ++ line_bytes (t j)) = ap length (ap line_bytes (next-is t) ∙ bytes-append (keys_text t (j - 2)) (t j)) in

@@ -1,4 +1,5 @@
 -- Texts laid into the output, and what that is worth at a state of the reading.
+use Rattle.std.specs.Prelude.{Result}
 use Prim.Native.Nat.{ℕ, ◌+◌, ◌-◌, ◌≤◌, ◌<◌}
 use mathlib.Core.Bool.{Bool, true, false}
 use mathlib.Core.List.{List, [], ◌∷◌, ◌++◌, append_assoc}
@@ -13,11 +14,11 @@ use Rattle.rules.specs.Values.{Known}
 use Rattle.rules.specs.FixedForm.{Text}
 use Rattle.rules.specs.Machine.{State}
 use Rattle.pens.specs.declared.Pen.{Pen}
-use Rattle.pens.specs.declared.Drawn.{Drawn}
 use Rattle.pens.specs.Texts.{ended, line_bytes, Draws, Inserts}
 use Rattle.pens.specs.Shown.{shown}
 use Rattle.pens.specs.Standing.{Here, Pens}
 use Rattle.pens.specs.Drawing.{LineOut}
+use Rattle.leaves.specs.declared.NoRoom.{NoRoom}
 
 -- ── lines as bytes ──
 pub bytes-append : (a b : Text) → line_bytes (a ++ b) ≡ line_bytes a ++ line_bytes b
@@ -46,7 +47,7 @@ room {P} a b f g = go (leb a b) refl
 
 module _ (K : Known) (spool : List ℕ) (first : Bool) (p : Pen) (ns out : List ℕ) (st : State) (z : Pens K spool first p ns out st) where
   -- a text is laid behind what is shown, and that is what is shown now; X may be nothing
-  pub on_draws : (X : Text) (st' : State) (next : Pen) (ns' out' : List ℕ) (d : Drawn)
+  pub on_draws : (X : Text) (st' : State) (next : Pen) (ns' out' : List ℕ) (d : Result Pen NoRoom)
       → length out' ≡ length out → shown K first st' ≡ shown K first st ++ X → Draws (line_bytes X) p.at next out out' d → next.at ≡ p.at + length (line_bytes X) → length ns' ≡ 28
       → Here K spool first next ns' st' → LineOut K spool first st' ns' out' d
   on_draws X st' next ns' out' d size e w a m h = room (p.at + length (line_bytes X)) (length out) fits full
@@ -77,7 +78,7 @@ module _ (K : Known) (spool : List ℕ) (first : Bool) (p : Pen) (ns out : List 
       full f = subst (LineOut K spool first st' ns' out') (sym (w.full f)) (omega (arith, long, f, size))
 
   -- a text comes before what stands inside the block, and one behind it
-  module _ (A I X Y : Text) (st' : State) (next : Pen) (ns' out' : List ℕ) (d : Drawn) (size : length out' ≡ length out) (e : shown K first st ≡ A ++ I) (e' : shown K first st' ≡ A ++ (X ++ (I ++ Y))) (s : p.start ≡ length (line_bytes A)) where
+  module _ (A I X Y : Text) (st' : State) (next : Pen) (ns' out' : List ℕ) (d : Result Pen NoRoom) (size : length out' ≡ length out) (e : shown K first st ≡ A ++ I) (e' : shown K first st' ≡ A ++ (X ++ (I ++ Y))) (s : p.start ≡ length (line_bytes A)) where
     abbrev x : List ℕ
     x = line_bytes X
 

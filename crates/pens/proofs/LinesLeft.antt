@@ -1,4 +1,5 @@
 -- The lines left of a volume: the next of them, by the code's look at it.
+use Rattle.std.specs.Prelude.{Some, None}
 use Prim.Native.Nat.{ℕ, suc, ◌+◌, ◌-◌, ◌≤◌, ◌<◌}
 use mathlib.Core.Bool.{Bool, true, false, cond}
 use mathlib.Core.List.{List, [], ◌∷◌}
@@ -17,7 +18,6 @@ use Rattle.rules.proofs.Chains.{and_left, and_right, by_cond, clash}
 use Rattle.promises.proofs.Forms.{Tells, form-tells}
 use Rattle.lines.specs.LineLook.{look_in}
 use Rattle.lines.specs.declared.Seen.{Seen}
-use Rattle.lines.specs.declared.Look.TheVariants as S
 use Rattle.lines.proofs.LinesSeen.{look-line, look-end, look-equals, look-forward}
 use Rattle.pens.specs.Keys.{PlacedCode}
 use Rattle.pens.specs.Drawing.{FormFits}
@@ -33,7 +33,7 @@ fits_of n eof t h = tt
 fits_of n (keyed k brace) t h = omega (arith, t, h)
 fits_of n (keyed k (equals p c)) t h = (omega (arith, t.0, h), t.1)
 
-module _ (spool body : List ℕ) (start at : ℕ) (ls : List (List ℕ)) (a : LinesAt spool body start at ls) (f : Seen) (q : look_in 1 1 start at body ≡ S.Line f) where
+module _ (spool body : List ℕ) (start at : ℕ) (ls : List (List ℕ)) (a : LinesAt spool body start at ls) (f : Seen) (q : look_in 1 1 start at body ≡ Some f) where
   -- the line that was seen, and those behind it
   pub record Next : Type 0 where
     pub line : List ℕ
@@ -84,7 +84,7 @@ module _ (spool body : List ℕ) (start at : ℕ) (ls : List (List ℕ)) (a : Li
       places (L.Refused r) e l h n = tt
 
 -- the forms of the lines left, behind that of the next
-pub forms-next : (spool body : List ℕ) (start at : ℕ) (ls : List (List ℕ)) (a : LinesAt spool body start at ls) (f : Seen) (q : look_in 1 1 start at body ≡ S.Line f)
+pub forms-next : (spool body : List ℕ) (start at : ℕ) (ls : List (List ℕ)) (a : LinesAt spool body start at ls) (f : Seen) (q : look_in 1 1 start at body ≡ Some f)
     → let z = line-next spool body start at ls a f q in forms_of at ls ≡ form_in spool f.form ∷ forms_of f.next z.others
 forms-next spool body start at ls a f q =
     let z = line-next spool body start at ls a f q in
@@ -93,7 +93,7 @@ forms-next spool body start at ls a f q =
     ∙ ap (λ (n : ℕ). form_in spool f.form ∷ forms_of n z.others) z.next
 
 -- no line is left
-pub forms-end : (spool body : List ℕ) (start at : ℕ) (ls : List (List ℕ)) → LinesAt spool body start at ls → look_in 1 1 start at body ≡ S.End → forms_of at ls ≡ []
+pub forms-end : (spool body : List ℕ) (start at : ℕ) (ls : List (List ℕ)) → LinesAt spool body start at ls → look_in 1 1 start at body ≡ None → forms_of at ls ≡ []
 forms-end spool body start at ls a q = ap (forms_of at) (look-end 1 1 start at spool body ls a.part a.short a.begun a.here a.lines q)
 
 -- ── the lines left grow fewer ──
@@ -101,7 +101,7 @@ pub fewer-none : (end at : ℕ) (going : Bool) → going ≡ true → 0 < cond g
 fewer-none end at true e = omega arith
 fewer-none end at false e = clash e refl
 
-pub fewer : (body : List ℕ) (start at : ℕ) (going more : Bool) (f : Seen) → going ≡ true → look_in 1 1 start at body ≡ S.Line f
+pub fewer : (body : List ℕ) (start at : ℕ) (going more : Bool) (f : Seen) → going ≡ true → look_in 1 1 start at body ≡ Some f
     → cond more (suc (start + length body + 3 - f.next)) 0 < cond going (suc (start + length body + 3 - at)) 0
 fewer body start at going more f e q =
     let (on, most, few) = look-forward 1 1 start at body f q in

@@ -1,8 +1,8 @@
 -- Notes: what a note stands for, and what noting a row or forgetting all notes does to the rows of a table and to a block's parts.
+use Rattle.std.specs.Prelude.{Option, Some, None}
 use Prim.Native.Nat.{ℕ, zero, suc, ◌+◌, ◌*◌, ◌/◌, ◌%◌, ◌≤◌, ◌<◌}
 use mathlib.Core.Bool.{Bool, true, false, cond, ◌&&◌}
 use mathlib.Core.List.{List, [], ◌∷◌}
-use mathlib.Core.Option.{Option, none, some}
 use mathlib.Core.Path.{◌≡◌, refl, sym, ◌∙◌, ap, subst}
 use native.Mathlib.Omega.{arith}
 use borrow.Author.Tests.{lt-ltb, leb-true, eqb-true, eqb-false, ltb-true, ltb-false}
@@ -62,9 +62,9 @@ holds_more (headed i p) may s n e = refl
 holds_more (either i) may s n e = refl
 
 stem-closed : (at : ℕ) (c : List ℕ) (o : Option (List ℕ)) → isOpenerShape (by_stem at c o) ≡ false
-stem-closed at c none = refl
-stem-closed at c (some []) = refl
-stem-closed at c (some (b ∷ t)) = refl
+stem-closed at c None = refl
+stem-closed at c (Some []) = refl
+stem-closed at c (Some (b ∷ t)) = refl
 
 equals-closed : (free : Bool) (at : ℕ) (c : List ℕ) → isOpenerShape (cond free (free_shape_of (equals at c)) (shape_of (equals at c))) ≡ false
 equals-closed true at [] = refl
@@ -92,7 +92,7 @@ note-rest spool k r (R.Equals q) v h z =
       b,
     )
 
-pub noted-line : (spool : List ℕ) (k : Known) (r : Rule) (rest : CodeRest) (v : Value) → PlacedRest rest → Reads k r (rest_in spool rest) v → Noted spool k r (note_of rest) (some v)
+pub noted-line : (spool : List ℕ) (k : Known) (r : Rule) (rest : CodeRest) (v : Value) → PlacedRest rest → Reads k r (rest_in spool rest) v → Noted spool k r (note_of rest) (Some v)
 noted-line spool k r rest v h z = (note-some rest h, subst (λ (x : Rest). Reads k r x v) (sym (note-rest spool k r rest v h z)) z)
 
 -- ── notes that are forgotten ──
@@ -105,7 +105,7 @@ pub blank-long : (t : List Rule) → length (blank t) ≡ length t
 blank-long [] = refl
 blank-long (r ∷ t) = ap suc (blank-long t)
 
-pub blank-at : (t : List Rule) (j : ℕ) → get_or (blank t) j none ≡ none
+pub blank-at : (t : List Rule) (j : ℕ) → get_or (blank t) j None ≡ None
 blank-at [] j = refl
 blank-at (r ∷ t) zero = refl
 blank-at (r ∷ t) (suc j) = blank-at t j
@@ -143,14 +143,14 @@ module _ (spool : List ℕ) (k : Known) where
       at (suc (suc j)) l = absurd (omega (arith, l, few))
 
   -- ── a row more ──
-  pub set-rows : (t : List Rule) (from : ℕ) (ns : List ℕ) (s : Slots) (j n : ℕ) (v : Value) → j < length t → from + length t ≤ length ns → Noted spool k (rule_at t j) n (some v)
-      → NotedRows spool k t from ns s → NotedRows spool k t from (set ns (from + j) n) (set s j (some v))
-  set-rows t from ns s j n v l room w z = record { long = length-set s j (some v) ∙ z.long; rows = at }
+  pub set-rows : (t : List Rule) (from : ℕ) (ns : List ℕ) (s : Slots) (j n : ℕ) (v : Value) → j < length t → from + length t ≤ length ns → Noted spool k (rule_at t j) n (Some v)
+      → NotedRows spool k t from ns s → NotedRows spool k t from (set ns (from + j) n) (set s j (Some v))
+  set-rows t from ns s j n v l room w z = record { long = length-set s j (Some v) ∙ z.long; rows = at }
     where
-      at : (i : ℕ) → i < length t → Noted spool k (rule_at t i) (get_or (set ns (from + j) n) (from + i) 0) (get_or (set s j (some v)) i none)
+      at : (i : ℕ) → i < length t → Noted spool k (rule_at t i) (get_or (set ns (from + j) n) (from + i) 0) (get_or (set s j (Some v)) i None)
       at i m = by_eqb i j
-          (λ e. rw (e, get_or-set_same ns (from + j) n 0 (omega (arith, l, room)), get_or-set_same s j (some v) none (omega (arith, l, z.long))) w)
-          (λ e. rw (get_or-set_other ns (from + j) (from + i) n 0 (λ f. e (omega (arith, f))), get_or-set_other s j i (some v) none e) (z.rows i m))
+          (λ e. rw (e, get_or-set_same ns (from + j) n 0 (omega (arith, l, room)), get_or-set_same s j (Some v) None (omega (arith, l, z.long))) w)
+          (λ e. rw (get_or-set_other ns (from + j) (from + i) n 0 (λ f. e (omega (arith, f))), get_or-set_other s j i (Some v) None e) (z.rows i m))
 
   -- a note that stands elsewhere
   pub other-rows : (t : List Rule) (from : ℕ) (ns : List ℕ) (s : Slots) (m n : ℕ) → ((j : ℕ) → j < length t → from + j ≡ m → ⊥)
@@ -205,7 +205,7 @@ held-part (s ∷ h) zero l = omega arith
 held-part (s ∷ h) (suc p) l = omega (arith, held-part h p l)
 
 -- row j of part p is noted
-module _ (spool : List ℕ) (k : Known) (b : ℕ) (ns : List ℕ) (h : Held) (p j : ℕ) (r : Rule) (n : ℕ) (v : Value) (laid : laid_out b ≡ true) (many : length ns ≡ 28) (l : p < length (tables_of b)) (w : Row (get_or (tables_of b) p []) j r) (note : Noted spool k r n (some v)) (z : NotedParts spool k b ns h) where
+module _ (spool : List ℕ) (k : Known) (b : ℕ) (ns : List ℕ) (h : Held) (p j : ℕ) (r : Rule) (n : ℕ) (v : Value) (laid : laid_out b ≡ true) (many : length ns ≡ 28) (l : p < length (tables_of b)) (w : Row (get_or (tables_of b) p []) j r) (note : Noted spool k r n (Some v)) (z : NotedParts spool k b ns h) where
   abbrev table : ℕ → List Rule
   table q = get_or (tables_of b) q []
 
@@ -216,13 +216,13 @@ module _ (spool : List ℕ) (k : Known) (b : ℕ) (ns : List ℕ) (h : Held) (p 
   same-part =
       let here : j < length (table p) = row_below w in
       let long : length (part_of h p) ≡ length (table p) = (z.parts p l).long in
-      subst (NotedRows spool k (table p) (start p) (set ns (start p + j) n)) (sym (get_or-set_same h p (set (part_of h p) j (some v)) [] (held-part h p (omega (arith, here, long)))))
+      subst (NotedRows spool k (table p) (start p) (set ns (start p + j) n)) (sym (get_or-set_same h p (set (part_of h p) j (Some v)) [] (held-part h p (omega (arith, here, long)))))
       (set-rows spool k (table p) (start p) ns (part_of h p) j n v here (omega (arith, part_room b laid p l, many))
-      (subst (λ (x : Rule). Noted spool k x n (some v)) (sym (row_at w _)) note) (z.parts p l))
+      (subst (λ (x : Rule). Noted spool k x n (Some v)) (sym (row_at w _)) note) (z.parts p l))
 
   other-part : (q : ℕ) → q < length (tables_of b) → (q ≡ p → ⊥) → NotedRows spool k (table q) (start q) (set ns (start p + j) n) (part_of (enter h p j v) q)
   other-part q m e =
-      subst (NotedRows spool k (table q) (start q) (set ns (start p + j) n)) (sym (get_or-set_other h p q (set (part_of h p) j (some v)) [] e))
+      subst (NotedRows spool k (table q) (start q) (set ns (start p + j) n)) (sym (get_or-set_other h p q (set (part_of h p) j (Some v)) [] e))
       (other-rows spool k (table q) (start q) ns (part_of h q) (start p + j) n apart (z.parts q m))
     where
       apart : (i : ℕ) → i < length (table q) → start q + i ≡ start p + j → ⊥

@@ -1,8 +1,8 @@
 -- The rows of a block's parts, noted: their tables, and their text taken apart row by row.
+use Rattle.std.specs.Prelude.{Option, Some, None, Result, Ok, Err}
 use Prim.Native.Nat.{ℕ, zero, suc, ◌+◌, ◌≤◌, ◌<◌}
 use mathlib.Core.Bool.{Bool, true, false, cond, ◌||◌}
 use mathlib.Core.List.{List, [], ◌∷◌, ◌++◌}
-use mathlib.Core.Option.{Option, none, some}
 use mathlib.Core.Path.{◌≡◌, refl, sym, ◌∙◌, ap, subst}
 use native.Mathlib.Omega.{arith}
 use borrow.Author.Tests.{eqb-true, eqb-false, ltb-true}
@@ -17,8 +17,6 @@ use Rattle.rules.specs.Figures.{text_table, placed_table}
 use Rattle.rules.specs.RecordTable.{rule_at}
 use Rattle.rules.specs.FixedForm.{Text, opens_block, line_of, show_slot, show_slots}
 use Rattle.rules.proofs.Rows.{Row, here, there, row-all, differ, row-find}
-use Rattle.leaves.specs.declared.Wrote.{Wrote}
-use Rattle.leaves.specs.declared.Wrote.TheVariants as W
 use Rattle.tables.specs.Tables.{table_of}
 use Rattle.prints.specs.Printing.{Prints}
 use Rattle.pens.specs.Texts.{ended, line_bytes}
@@ -28,6 +26,8 @@ use Rattle.pens.specs.Writing.{Named, PrintsNoted, inner_table, TellsInner, rows
 use Rattle.pens.proofs.Laying.{bytes-append}
 use Rattle.pens.proofs.ShownLaws.{slot-more, depth-more}
 use Rattle.pens.proofs.Behind.{printed, unprinted, prints-none, spared-prints, first-full, rest, whole, behind-full, behind-prints}
+use Rattle.leaves.specs.declared.NoRoom.{NoRoom}
+use Rattle.leaves.specs.NoRoom.{no_room}
 
 -- ── the tables of the parts ──
 -- the rows of part p
@@ -122,8 +122,8 @@ module _ (b p : ℕ) (z : PartTable b p) (j : ℕ) (l : j < length (rows_of b p)
 module _ (k : Known) (b : ℕ) (h : Held) where
   -- the inner part that a row opens, and its `}`
   abbrev pub inner_bytes : ℕ → Rule → Option Value → List ℕ
-  inner_bytes d r none = []
-  inner_bytes d r (some v) = cond (opens_block r.holds v) (line_bytes (rows_from k b h d (inner_of r.holds) 0) ++ shut_bytes) []
+  inner_bytes d r None = []
+  inner_bytes d r (Some v) = cond (opens_block r.holds v) (line_bytes (rows_from k b h d (inner_of r.holds) 0) ++ shut_bytes) []
 
   pub depth-rows : (d i : ℕ) → show_depth k (tables_of b) h d i [] ≡ rows_from k b h d i 0
   depth-rows zero i = refl
@@ -135,8 +135,8 @@ module _ (k : Known) (b : ℕ) (h : Held) where
       ∙ bytes-append (rows_from k b h d i 0) (bytes "}" ∷ [])
 
   slot-bytes : (d : ℕ) (r : Rule) (o : Option Value) → line_bytes (show_slot k r o (show_depth k (tables_of b) h d) []) ≡ row_bytes k r o ++ inner_bytes d r o
-  slot-bytes d r none = refl
-  slot-bytes d r (some v) = go (opens_block r.holds v)
+  slot-bytes d r None = refl
+  slot-bytes d r (Some v) = go (opens_block r.holds v)
     where
       go : (t : Bool) → ended (line_of k r v) ++ line_bytes (cond t (show_depth k (tables_of b) h d (inner_of r.holds) (bytes "}" ∷ [])) [])
           ≡ ended (line_of k r v) ++ cond t (line_bytes (rows_from k b h d (inner_of r.holds) 0) ++ shut_bytes) []
@@ -157,46 +157,46 @@ module _ (k : Known) (b : ℕ) (h : Held) where
       let others : Text = show_slots k (drop (j + 1) t) (drop (j + 1) o) inner [] in
       ap line_bytes
       (ap (λ (u : List Rule). show_slots k u (drop j o) inner []) (drop-cons t j (row "" (opens 0) 0) l)
-      ∙ ap (λ (u : Slots). show_slots k (rule_at t j ∷ drop (suc j) t) u inner []) (drop-cons o j none (omega (arith, l, s)))
-      ∙ ap (λ (i : ℕ). show_slot k (rule_at t j) (get_or o j none) inner (show_slots k (drop i t) (drop i o) inner [])) next
-      ∙ slot-more k inner (depth-more k (tables_of b) h d) (rule_at t j) (get_or o j none) others)
+      ∙ ap (λ (u : Slots). show_slots k (rule_at t j ∷ drop (suc j) t) u inner []) (drop-cons o j None (omega (arith, l, s)))
+      ∙ ap (λ (i : ℕ). show_slot k (rule_at t j) (get_or o j None) inner (show_slots k (drop i t) (drop i o) inner [])) next
+      ∙ slot-more k inner (depth-more k (tables_of b) h d) (rule_at t j) (get_or o j None) others)
       ∙ bytes-append (slot_text k b h d p j) others
 
 -- ── the code's steps ──
 module _ (spool : List ℕ) (b : ℕ) (ns : List ℕ) where
   -- an inner part
-  pub part_none : (depth inner : ℕ) (before : List ℕ) → inner ≡ 255 → PrintsPart spool depth b inner ns before before (W.Bytes 0)
+  pub part_none : (depth inner : ℕ) (before : List ℕ) → inner ≡ 255 → PrintsPart spool depth b inner ns before before (Ok 0)
   part_none depth inner before e = (λ _. prints-none before, λ n k h p z l t. absurd (eqb-false (part_table b p) 255 (part-table b p n l).known (sym t ∙ e)))
 
   module _ (depth inner : ℕ) (there : inner ≡ 255 → ⊥) (before x : List ℕ) where
-    pub part-full : PrintsRows spool depth b inner 0 ns before x W.Full → PrintsPart spool depth b inner ns before x W.Full
+    pub part-full : PrintsRows spool depth b inner 0 ns before x (Err no_room) → PrintsPart spool depth b inner ns before x (Err no_room)
     part-full f = (
       λ e. absurd (there e),
       λ n k h p z l t.
           let r : List ℕ = line_bytes (rows_from k b h depth p 0) in first-full r shut_bytes before x (unprinted r before x (f n k h p z l t)),
     )
 
-    module _ (n : ℕ) (f : PrintsRows spool depth b inner 0 ns before x (W.Bytes n)) (y : List ℕ) where
-      pub part-end-full : Prints shut_bytes (rest before x y n) y W.Full → PrintsPart spool depth b inner ns before (whole before x y n) W.Full
+    module _ (n : ℕ) (f : PrintsRows spool depth b inner 0 ns before x (Ok n)) (y : List ℕ) where
+      pub part-end-full : Prints shut_bytes (rest before x y n) y (Err no_room) → PrintsPart spool depth b inner ns before (whole before x y n) (Err no_room)
       part-end-full q = (
         λ e. absurd (there e),
         λ m k h p z l t. behind-full before x y n (line_bytes (rows_from k b h depth p 0)) shut_bytes (f m k h p z l t) (whole before x y n) q,
       )
 
-      pub part-printed : (i : ℕ) → Prints shut_bytes (rest before x y n) y (W.Bytes i) → PrintsPart spool depth b inner ns before (whole before x y n) (W.Bytes (n + i))
+      pub part-printed : (i : ℕ) → Prints shut_bytes (rest before x y n) y (Ok i) → PrintsPart spool depth b inner ns before (whole before x y n) (Ok (n + i))
       part-printed i q = (
         λ e. absurd (there e),
         λ m k h p z l t. behind-prints before x y n (line_bytes (rows_from k b h depth p 0)) shut_bytes (f m k h p z l t) i q,
       )
 
   -- a row with the inner part that it opens
-  module _ (depth table j note inner : ℕ) (before mid x : List ℕ) (w : Wrote) (noted : note ≡ get_or ns (notes_from table + j) 0) (tells : TellsInner spool b table j note before mid inner) (prints : PrintsNoted spool table j note mid x w) where
+  module _ (depth table j note inner : ℕ) (before mid x : List ℕ) (w : Result ℕ NoRoom) (noted : note ≡ get_or ns (notes_from table + j) 0) (tells : TellsInner spool b table j note before mid inner) (prints : PrintsNoted spool table j note mid x w) where
     module _ (n : noted_base b ≡ true) (k : Known) (h : Held) (p : ℕ) (z : NotedParts spool k b ns h) (l : p < length (tables_of b)) (t : table ≡ part_table b p) (m : j < length (rows_of b p)) where
       abbrev q : Rule
       q = rule_at (rows_of b p) j
 
       abbrev o : Option Value
-      o = get_or (part_of h p) j none
+      o = get_or (part_of h p) j None
 
       named : Named table j q
       named = subst (λ (i : ℕ). Named i j q) (sym t) (named-row b p (part-table b p n l) j m)
@@ -213,46 +213,46 @@ module _ (spool : List ℕ) (b : ℕ) (ns : List ℕ) where
       text : row_bytes k q o ++ inner_bytes k b h depth q o ≡ line_bytes (slot_text k b h depth p j)
       text = sym (slot-bytes k b h depth q o)
 
-      part : (lent after : List ℕ) (r : Wrote) → length (row_bytes k q o) ≤ length before → PrintsPart spool depth b inner ns lent after r → Prints (inner_bytes k b h depth q o) lent after r
+      part : (lent after : List ℕ) (r : Result ℕ NoRoom) → length (row_bytes k q o) ≤ length before → PrintsPart spool depth b inner ns lent after r → Prints (inner_bytes k b h depth q o) lent after r
       part lent after r f g = go o (inner-so f)
         where
           go : (o : Option Value) → inner ≡ inner_table b q o → Prints (inner_bytes k b h depth q o) lent after r
-          go none e = g.0 e
-          go (some v) e = by (opens_block q.holds v) e
+          go None e = g.0 e
+          go (Some v) e = by (opens_block q.holds v) e
             where
               by : (t : Bool) → inner ≡ cond t (part_table b (inner_of q.holds)) 255 → Prints (cond t (line_bytes (rows_from k b h depth (inner_of q.holds) 0) ++ shut_bytes) []) lent after r
               by true e = g.1 n k h (inner_of q.holds) z (inner_below b p (part-table b p n l) j m) e
               by false e = g.0 e
 
-    pub slot-full : w ≡ W.Full → PrintsSlot spool depth b table j ns before x W.Full
+    pub slot-full : w ≡ (Err no_room) → PrintsSlot spool depth b table j ns before x (Err no_room)
     slot-full e n k h p z l t m =
         let r : List ℕ = row_bytes k (q n k h p z l t m) (o n k h p z l t m) in
-        subst (λ (u : List ℕ). Prints u before x W.Full) (text n k h p z l t m)
+        subst (λ (u : List ℕ). Prints u before x (Err no_room)) (text n k h p z l t m)
         (first-full r _ before x (unprinted r before x (subst (Prints r before x) e (line n k h p z l t m))))
 
-    module _ (i : ℕ) (e : w ≡ W.Bytes i) (y : List ℕ) where
-      pub slot-part-full : PrintsPart spool depth b inner ns (rest before x y i) y W.Full → PrintsSlot spool depth b table j ns before (whole before x y i) W.Full
+    module _ (i : ℕ) (e : w ≡ Ok i) (y : List ℕ) where
+      pub slot-part-full : PrintsPart spool depth b inner ns (rest before x y i) y (Err no_room) → PrintsSlot spool depth b table j ns before (whole before x y i) (Err no_room)
       slot-part-full g n k h p z l t m =
           let r : List ℕ = row_bytes k (q n k h p z l t m) (o n k h p z l t m) in
-          let f : Prints r before x (W.Bytes i) = subst (Prints r before x) e (line n k h p z l t m) in
-          subst (λ (u : List ℕ). Prints u before (whole before x y i) W.Full) (text n k h p z l t m)
-          (behind-full before x y i r _ f (whole before x y i) (part n k h p z l t m (rest before x y i) y W.Full (printed r before x i f).1 g))
+          let f : Prints r before x (Ok i) = subst (Prints r before x) e (line n k h p z l t m) in
+          subst (λ (u : List ℕ). Prints u before (whole before x y i) (Err no_room)) (text n k h p z l t m)
+          (behind-full before x y i r _ f (whole before x y i) (part n k h p z l t m (rest before x y i) y (Err no_room) (printed r before x i f).1 g))
 
-      pub slot-printed : (a : ℕ) → PrintsPart spool depth b inner ns (rest before x y i) y (W.Bytes a) → PrintsSlot spool depth b table j ns before (whole before x y i) (W.Bytes (i + a))
+      pub slot-printed : (a : ℕ) → PrintsPart spool depth b inner ns (rest before x y i) y (Ok a) → PrintsSlot spool depth b table j ns before (whole before x y i) (Ok (i + a))
       slot-printed a g n k h p z l t m =
           let r : List ℕ = row_bytes k (q n k h p z l t m) (o n k h p z l t m) in
-          let f : Prints r before x (W.Bytes i) = subst (Prints r before x) e (line n k h p z l t m) in
-          subst (λ (u : List ℕ). Prints u before (whole before x y i) (W.Bytes (i + a))) (text n k h p z l t m)
-          (behind-prints before x y i r _ f a (part n k h p z l t m (rest before x y i) y (W.Bytes a) (printed r before x i f).1 g))
+          let f : Prints r before x (Ok i) = subst (Prints r before x) e (line n k h p z l t m) in
+          subst (λ (u : List ℕ). Prints u before (whole before x y i) (Ok (i + a))) (text n k h p z l t m)
+          (behind-prints before x y i r _ f a (part n k h p z l t m (rest before x y i) y (Ok a) (printed r before x i f).1 g))
 
   -- the rows from number j on
-  pub rows_none : (depth table j : ℕ) (before : List ℕ) → depth ≡ 0 → PrintsRows spool depth b table j ns before before (W.Bytes 0)
-  rows_none depth table j before e = subst (λ (d : ℕ). PrintsRows spool d b table j ns before before (W.Bytes 0)) (sym e) (λ n k h p z l t. prints-none before)
+  pub rows_none : (depth table j : ℕ) (before : List ℕ) → depth ≡ 0 → PrintsRows spool depth b table j ns before before (Ok 0)
+  rows_none depth table j before e = subst (λ (d : ℕ). PrintsRows spool d b table j ns before before (Ok 0)) (sym e) (λ n k h p z l t. prints-none before)
 
-  pub rows_last : (depth table j : ℕ) (before : List ℕ) → rows_in table ≤ j → PrintsRows spool depth b table j ns before before (W.Bytes 0)
+  pub rows_last : (depth table j : ℕ) (before : List ℕ) → rows_in table ≤ j → PrintsRows spool depth b table j ns before before (Ok 0)
   rows_last depth table j before f n k h p z l t =
       let last : length (rows_of b p) ≤ j = omega (arith, f, ap rows_in t, (part-table b p n l).many) in
-      subst (λ (u : Text). Prints (line_bytes u) before before (W.Bytes 0)) (sym (rows_end k b h depth p j last)) (prints-none before)
+      subst (λ (u : Text). Prints (line_bytes u) before before (Ok 0)) (sym (rows_end k b h depth p j last)) (prints-none before)
 
   module _ (depth inner table j : ℕ) (deep : suc inner ≡ depth) (f : j < rows_in table) (before x : List ℕ) where
     here-is : (p : ℕ) → noted_base b ≡ true → p < length (tables_of b) → table ≡ part_table b p → j < length (rows_of b p)
@@ -265,23 +265,23 @@ module _ (spool : List ℕ) (b : ℕ) (ns : List ℕ) where
         subst (λ (d : ℕ). line_bytes (slot_text k b h inner p j) ++ line_bytes (rows_from k b h d p (j + 1)) ≡ line_bytes (rows_from k b h d p j)) deep
         (sym (rows_more k b h inner p j m s))
 
-    pub rows-full : PrintsSlot spool inner b table j ns before x W.Full → PrintsRows spool depth b table j ns before x W.Full
+    pub rows-full : PrintsSlot spool inner b table j ns before x (Err no_room) → PrintsRows spool depth b table j ns before x (Err no_room)
     rows-full g n k h p z l t =
         let m : j < length (rows_of b p) = here-is p n l t in
         let a : List ℕ = line_bytes (slot_text k b h inner p j) in
-        subst (λ (u : List ℕ). Prints u before x W.Full) (two k h p m (z.parts p l).long) (first-full a _ before x (unprinted a before x (g n k h p z l t m)))
+        subst (λ (u : List ℕ). Prints u before x (Err no_room)) (two k h p m (z.parts p l).long) (first-full a _ before x (unprinted a before x (g n k h p z l t m)))
 
-    module _ (i : ℕ) (g : PrintsSlot spool inner b table j ns before x (W.Bytes i)) (y : List ℕ) where
-      pub rows-others-full : PrintsRows spool depth b table (j + 1) ns (rest before x y i) y W.Full → PrintsRows spool depth b table j ns before (whole before x y i) W.Full
+    module _ (i : ℕ) (g : PrintsSlot spool inner b table j ns before x (Ok i)) (y : List ℕ) where
+      pub rows-others-full : PrintsRows spool depth b table (j + 1) ns (rest before x y i) y (Err no_room) → PrintsRows spool depth b table j ns before (whole before x y i) (Err no_room)
       rows-others-full v n k h p z l t =
           let m : j < length (rows_of b p) = here-is p n l t in
-          subst (λ (u : List ℕ). Prints u before (whole before x y i) W.Full) (two k h p m (z.parts p l).long)
+          subst (λ (u : List ℕ). Prints u before (whole before x y i) (Err no_room)) (two k h p m (z.parts p l).long)
           (behind-full before x y i (line_bytes (slot_text k b h inner p j)) _ (g n k h p z l t m) (whole before x y i) (v n k h p z l t))
 
-      pub rows-printed : (a : ℕ) → PrintsRows spool depth b table (j + 1) ns (rest before x y i) y (W.Bytes a) → PrintsRows spool depth b table j ns before (whole before x y i) (W.Bytes (i + a))
+      pub rows-printed : (a : ℕ) → PrintsRows spool depth b table (j + 1) ns (rest before x y i) y (Ok a) → PrintsRows spool depth b table j ns before (whole before x y i) (Ok (i + a))
       rows-printed a v n k h p z l t =
           let m : j < length (rows_of b p) = here-is p n l t in
-          subst (λ (u : List ℕ). Prints u before (whole before x y i) (W.Bytes (i + a))) (two k h p m (z.parts p l).long)
+          subst (λ (u : List ℕ). Prints u before (whole before x y i) (Ok (i + a))) (two k h p m (z.parts p l).long)
           (behind-prints before x y i (line_bytes (slot_text k b h inner p j)) _ (g n k h p z l t m) a (v n k h p z l t))
 
 -- a table's rows and its notes are few

@@ -1,8 +1,8 @@
 -- A wire's lines gone over for one key: what one line writes, and all of them.
+use Rattle.std.specs.Prelude.{Option, Some, None, Result, Ok, Err}
 use Prim.Native.Nat.{ℕ, zero, suc, ◌+◌, ◌-◌, ◌≤◌, ◌<◌}
 use mathlib.Core.Bool.{Bool, true, false, cond, not}
 use mathlib.Core.List.{List, [], ◌∷◌, ◌++◌, append_assoc, append-nil}
-use mathlib.Core.Option.{some}
 use mathlib.Core.Path.{◌≡◌, refl, sym, ◌∙◌, ap, subst}
 use native.Mathlib.Omega.{arith}
 use borrow.Author.Tests.{not-true, not-false}
@@ -21,14 +21,9 @@ use Rattle.rules.specs.Figures.{text_table, wire_table, wire_text_table}
 use Rattle.rules.specs.FixedForm.{Text, no_inner, line_of, show_slots}
 use Rattle.rules.proofs.Chains.{clash}
 use Rattle.rules.proofs.Rows.{found-row, row_at, row_below}
-use Rattle.leaves.specs.declared.Wrote.{Wrote}
-use Rattle.leaves.specs.declared.Wrote.TheVariants as W
 use Rattle.lines.specs.LineLook.{look_in}
 use Rattle.lines.specs.declared.Seen.{Seen}
-use Rattle.lines.specs.declared.Look.TheVariants as S
 use Rattle.tables.specs.declared.Row.{Row}
-use Rattle.tables.specs.declared.Found.{Found}
-use Rattle.tables.specs.declared.Found.TheVariants as F
 use Rattle.tables.specs.Rows.{found_of, found_for_line}
 use Rattle.tables.specs.Tables.{table_of}
 use Rattle.entries.specs.declared.Rest.{Rest}
@@ -50,6 +45,7 @@ use Rattle.pens.proofs.Writers.{lays, no_room, kept-long, room-left}
 use Rattle.pens.proofs.KeyRows.{found-is, found_none}
 use Rattle.pens.proofs.NotedLaws.{noted-line, set-rows, blank-rows}
 use Rattle.pens.proofs.LinesLeft.{line-next, forms-next, forms-end}
+use Rattle.leaves.specs.declared.NoRoom.{NoRoom}
 
 -- ── the tables ──
 wire-rows : table_of 20 ≡ wire_table
@@ -65,7 +61,7 @@ unfolding text_table
 text-two = refl
 
 -- ── nothing is written ──
-module _ (spool : List ℕ) (k : Known) (on : Amid → Text → Type 0) (o : Opened) (t : Text) (before after : List ℕ) (r : Wrote) where
+module _ (spool : List ℕ) (k : Known) (on : Amid → Text → Type 0) (o : Opened) (t : Text) (before after : List ℕ) (r : Result ℕ NoRoom) where
   nothing : (a : Amid) → Prints [] before after r → Holds spool k a o → on a t → Printed spool k on o false t before after r
   nothing a p h g = record { text = []; rest = t; is = refl; prints = p; behind = a; holds = h; goes = λ _. g; ends = λ e. clash e refl }
 
@@ -83,9 +79,9 @@ noted-text o j n = go (eqb j 0)
     go true = refl
     go false = refl
 
-module _ (spool : List ℕ) (j : ℕ) (o : Opened) (before after : List ℕ) (r : Wrote) (k : Known) (on : Amid → Text → Type 0) where
+module _ (spool : List ℕ) (j : ℕ) (o : Opened) (before after : List ℕ) (r : Result ℕ NoRoom) (k : Known) (on : Amid → Text → Type 0) where
   -- ── a line with a key ──
-  module _ (key : Span) (rest : Rest) (place : PlacedRest rest) (row : Row) (e : FoundUnder spool o key (F.Row row)) (w : PrintsOwn spool j o row rest before after r) where
+  module _ (key : Span) (rest : Rest) (place : PlacedRest rest) (row : Row) (e : FoundUnder spool o key (Some row)) (w : PrintsOwn spool j o row rest before after r) where
     -- what is open behind it
     abbrev next : Opened
     next = cond o.text (noted_row o row.number (note_of rest)) (record { text = eqb row.number 5; first = 0; second = 0 })
@@ -93,7 +89,7 @@ module _ (spool : List ℕ) (j : ℕ) (o : Opened) (before after : List ℕ) (r 
     own_line : (t : Text) → o.text ≡ false → OwnLine k j on (bytes_at spool key) (rest_in spool rest) t → Printed spool k on next false t before after r
     own_line t h p =
         let f : find (bytes_at spool key) (table_of 20) ≡ found p.row p.rule = ap (find (bytes_at spool key)) wire-rows ∙ p.found-so in
-        let here : found_for_line (find (bytes_at spool key) (table_of 20)) ≡ found_of (F.Row row) = subst (λ (b : Bool). found_for_line (find (bytes_at spool key) (table_of (cond b 16 20))) ≡ found_of (F.Row row)) h e in
+        let here : found_for_line (find (bytes_at spool key) (table_of 20)) ≡ found_of (Some row) = subst (λ (b : Bool). found_for_line (find (bytes_at spool key) (table_of (cond b 16 20))) ≡ found_of (Some row)) h e in
         let is = found-is (bytes_at spool key) 20 p.row p.rule row here f in
         let holds : Holds spool k (amid_by p.row) next = subst (λ (n : ℕ). Holds spool k (amid_by n) next) is.number_is (rw h (begun row.number)) in
         go holds is (eqb row.number j) refl
@@ -131,18 +127,18 @@ module _ (spool : List ℕ) (j : ℕ) (o : Opened) (before after : List ℕ) (r 
         → Printed spool k on next false t before after r
     text-line s t h z p =
         let f : find (bytes_at spool key) (table_of 16) ≡ found p.row p.rule = ap (find (bytes_at spool key)) text-rows ∙ p.found-so in
-        let here : found_for_line (find (bytes_at spool key) (table_of 16)) ≡ found_of (F.Row row) = subst (λ (b : Bool). found_for_line (find (bytes_at spool key) (table_of (cond b 16 20))) ≡ found_of (F.Row row)) h e in
+        let here : found_for_line (find (bytes_at spool key) (table_of 16)) ≡ found_of (Some row) = subst (λ (b : Bool). found_for_line (find (bytes_at spool key) (table_of (cond b 16 20))) ≡ found_of (Some row)) h e in
         let is = found-is (bytes_at spool key) 16 p.row p.rule row here f in
         let (stands, _) = found-row (bytes_at spool key) wire_text_table p.row p.rule p.found-so in
         let two : p.row < 2 = omega (arith, row_below stands, text-two) in
         let note = noted-line spool k p.rule rest p.value place p.reads in
-        let noted : NotedRows spool k wire_text_table 4 (set (text_notes o) (4 + p.row) (note_of rest)) (set s p.row (some p.value)) =
+        let noted : NotedRows spool k wire_text_table 4 (set (text_notes o) (4 + p.row) (note_of rest)) (set s p.row (Some p.value)) =
         set-rows spool k wire_text_table 4 (text_notes o) s p.row (note_of rest) p.value (row_below stands) (omega (arith, text-two))
-        (subst (λ (q : Rule). Noted spool k q (note_of rest) (some p.value)) (sym (row_at stands _)) note) z in
-        let holds : Holds spool k (inside (set s p.row (some p.value))) (noted_row o p.row (note_of rest)) =
-        (noted-text o p.row (note_of rest), subst (λ (ns : List ℕ). NotedRows spool k wire_text_table 4 ns (set s p.row (some p.value))) (sym (noted_more o p.row (note_of rest) two)) noted) in
-        nothing spool k on next t before after r (inside (set s p.row (some p.value))) (w.in-text h)
-        (rw h (subst (λ (n : ℕ). Holds spool k (inside (set s p.row (some p.value))) (noted_row o n (note_of rest))) (sym is.number_is) holds))
+        (subst (λ (q : Rule). Noted spool k q (note_of rest) (Some p.value)) (sym (row_at stands _)) note) z in
+        let holds : Holds spool k (inside (set s p.row (Some p.value))) (noted_row o p.row (note_of rest)) =
+        (noted-text o p.row (note_of rest), subst (λ (ns : List ℕ). NotedRows spool k wire_text_table 4 ns (set s p.row (Some p.value))) (sym (noted_more o p.row (note_of rest) two)) noted) in
+        nothing spool k on next t before after r (inside (set s p.row (Some p.value))) (w.in-text h)
+        (rw h (subst (λ (n : ℕ). Holds spool k (inside (set s p.row (Some p.value))) (noted_row o n (note_of rest))) (sym is.number_is) holds))
         p.goes
 
     key-line : (a : Amid) (t : Text) → Holds spool k a o → PassLine k j on a (keyed (bytes_at spool key) (rest_in spool rest)) t → Printed spool k on next false t before after r
@@ -150,12 +146,12 @@ module _ (spool : List ℕ) (j : ℕ) (o : Opened) (before after : List ℕ) (r 
     key-line (inside s) t h p = text-line s t h.0 h.1 p
 
   -- a key that was not found
-  unfound : {P : Type 0} (key : Span) (x : LineRest) → FoundUnder spool o key F.Absent → (a : Amid) (t : Text) → Holds spool k a o → PassLine k j on a (keyed (bytes_at spool key) x) t → P
+  unfound : {P : Type 0} (key : Span) (x : LineRest) → FoundUnder spool o key None → (a : Amid) (t : Text) → Holds spool k a o → PassLine k j on a (keyed (bytes_at spool key) x) t → P
   unfound key x e outside t h p =
-      found_none (bytes_at spool key) 20 p.row p.rule (subst (λ (b : Bool). found_for_line (find (bytes_at spool key) (table_of (cond b 16 20))) ≡ found_of F.Absent) h e)
+      found_none (bytes_at spool key) 20 p.row p.rule (subst (λ (b : Bool). found_for_line (find (bytes_at spool key) (table_of (cond b 16 20))) ≡ found_of None) h e)
       (ap (find (bytes_at spool key)) wire-rows ∙ p.found-so)
   unfound key x e (inside s) t h p =
-      found_none (bytes_at spool key) 16 p.row p.rule (subst (λ (b : Bool). found_for_line (find (bytes_at spool key) (table_of (cond b 16 20))) ≡ found_of F.Absent) h.0 e)
+      found_none (bytes_at spool key) 16 p.row p.rule (subst (λ (b : Bool). found_for_line (find (bytes_at spool key) (table_of (cond b 16 20))) ≡ found_of None) h.0 e)
       (ap (find (bytes_at spool key)) text-rows ∙ p.found-so)
 
   -- ── a `}` ──
@@ -190,22 +186,22 @@ over-shut o f e = rw e (go o.text)
 pub over-not : (o : Opened) (f : LineForm) → is_close f ≡ false → false ≡ is_over o f
 over-not o f e = sym (rw e)
 
-pub behind-shut : (o : Opened) (f : LineForm) (g : Found) (x : Opened) → is_close f ≡ true → x ≡ no_text → x ≡ opened_behind o f g
+pub behind-shut : (o : Opened) (f : LineForm) (g : Option Row) (x : Opened) → is_close f ≡ true → x ≡ no_text → x ≡ opened_behind o f g
 behind-shut o f g x e n = n ∙ sym (rw e)
 
-pub behind-none : (o : Opened) (f : LineForm) (g : Found) → is_close f ≡ false → g ≡ F.Absent → o ≡ opened_behind o f g
+pub behind-none : (o : Opened) (f : LineForm) (g : Option Row) → is_close f ≡ false → g ≡ None → o ≡ opened_behind o f g
 behind-none o f g e n = sym (rw (e, n))
 
-pub behind-text : (o : Opened) (f : LineForm) (g : Found) (row : Row) (rest : Rest) (note : ℕ) (x : Opened) → is_close f ≡ false → g ≡ F.Row row → o.text ≡ true → rest ≡ rest_here f → note ≡ note_of rest
+pub behind-text : (o : Opened) (f : LineForm) (g : Option Row) (row : Row) (rest : Rest) (note : ℕ) (x : Opened) → is_close f ≡ false → g ≡ Some row → o.text ≡ true → rest ≡ rest_here f → note ≡ note_of rest
     → x ≡ noted_row o row.number note → x ≡ opened_behind o f g
 behind-text o f g row rest note x e n h a b c = c ∙ ap (noted_row o row.number) (b ∙ ap note_of a) ∙ sym (rw (e, n, h))
 
-pub behind-own : (o : Opened) (f : LineForm) (g : Found) (row : Row) → is_close f ≡ false → g ≡ F.Row row → o.text ≡ false
+pub behind-own : (o : Opened) (f : LineForm) (g : Option Row) (row : Row) → is_close f ≡ false → g ≡ Some row → o.text ≡ false
     → ◌≡◌ {A = Opened} (record { text = eqb row.number 5; first = 0; second = 0 }) (opened_behind o f g)
 behind-own o f g row e n h = sym (rw (e, n, h))
 
 -- ── any line ──
-pub line-shut : (spool : List ℕ) (j : ℕ) (o : Opened) (f : LineForm) (g : Found) (before after : List ℕ) (r : Wrote) → is_close f ≡ true → PrintsShut spool j o before after r
+pub line-shut : (spool : List ℕ) (j : ℕ) (o : Opened) (f : LineForm) (g : Option Row) (before after : List ℕ) (r : Result ℕ NoRoom) → is_close f ≡ true → PrintsShut spool j o before after r
     → PrintsLine spool j o f g before after r
 line-shut spool j o L.Ignored g before after r c w = clash c refl
 line-shut spool j o L.Close g before after r c w = λ k fs a t place e h p. shut-line spool j o before after r k (Pass k j fs) w a t h p
@@ -214,20 +210,20 @@ line-shut spool j o (L.Opens x) g before after r c w = clash c refl
 line-shut spool j o (L.Equals x) g before after r c w = clash c refl
 line-shut spool j o (L.Refused x) g before after r c w = clash c refl
 
-pub line-none : (spool : List ℕ) (j : ℕ) (o : Opened) (f : LineForm) (g : Found) (before : List ℕ) → is_close f ≡ false → g ≡ F.Absent
-    → PrintsLine spool j o f g before before (W.Bytes 0)
-line-none spool j o L.Ignored g before c n = λ k fs a t place e h p. rw n (nothing spool k (Pass k j fs) o t before before (W.Bytes 0) a (prints-none before) h p)
+pub line-none : (spool : List ℕ) (j : ℕ) (o : Opened) (f : LineForm) (g : Option Row) (before : List ℕ) → is_close f ≡ false → g ≡ None
+    → PrintsLine spool j o f g before before (Ok 0)
+line-none spool j o L.Ignored g before c n = λ k fs a t place e h p. rw n (nothing spool k (Pass k j fs) o t before before (Ok 0) a (prints-none before) h p)
 line-none spool j o L.Close g before c n = clash refl c
 line-none spool j o L.Eof g before c n = λ k fs a t place e h p. absurd p
-line-none spool j o (L.Opens x) g before c n = λ k fs a t place e h p. unfound spool j o before before (W.Bytes 0) k (Pass k j fs) x.key _ (subst (FoundUnder spool o x.key) n e) a t h p
-line-none spool j o (L.Equals x) g before c n = λ k fs a t place e h p. unfound spool j o before before (W.Bytes 0) k (Pass k j fs) x.key _ (subst (FoundUnder spool o x.key) n e) a t h p
+line-none spool j o (L.Opens x) g before c n = λ k fs a t place e h p. unfound spool j o before before (Ok 0) k (Pass k j fs) x.key _ (subst (FoundUnder spool o x.key) n e) a t h p
+line-none spool j o (L.Equals x) g before c n = λ k fs a t place e h p. unfound spool j o before before (Ok 0) k (Pass k j fs) x.key _ (subst (FoundUnder spool o x.key) n e) a t h p
 line-none spool j o (L.Refused x) g before c n = λ k fs a t place e h p. absurd p
 
-pub line-own : (spool : List ℕ) (j : ℕ) (o : Opened) (f : LineForm) (g : Found) (row : Row) (before after : List ℕ) (r : Wrote) → is_close f ≡ false → g ≡ F.Row row
+pub line-own : (spool : List ℕ) (j : ℕ) (o : Opened) (f : LineForm) (g : Option Row) (row : Row) (before after : List ℕ) (r : Result ℕ NoRoom) → is_close f ≡ false → g ≡ Some row
     → PrintsOwn spool j o row (rest_here f) before after r → PrintsLine spool j o f g before after r
 line-own spool j o L.Ignored g row before after r c n w = λ k fs a t place e h p. none_such (sym e ∙ n)
   where
-    none_such : {P : Type 0} → F.Absent ≡ F.Row row → P
+    none_such : {P : Type 0} → None ≡ Some row → P
     none_such z = absurd (let y : ◌≡◌ {A = ℕ} 0 1 = cc in omega arith)
 line-own spool j o L.Close g row before after r c n w = clash refl c
 line-own spool j o L.Eof g row before after r c n w = λ k fs a t place e h p. absurd p
@@ -244,11 +240,11 @@ pub record Front (x : List ℕ) (n : ℕ) (before out : List ℕ) : Type 0 where
   pub room : n ≤ length before
   pub lies : out ≡ x ++ drop n before
 
-module _ (x : List ℕ) (n : ℕ) (before out : List ℕ) (h : n ≤ length out) (z : Front x n before out) (y mid : List ℕ) (r : Wrote) (p : Prints y (take (length out - n) (drop n out)) mid r) where
+module _ (x : List ℕ) (n : ℕ) (before out : List ℕ) (h : n ≤ length out) (z : Front x n before out) (y mid : List ℕ) (r : Result ℕ NoRoom) (p : Prints y (take (length out - n) (drop n out)) mid r) where
   front_long : length out ≡ length before
   front_long = ap length z.lies ∙ length-append x (drop n before) ∙ omega (arith, z.size, z.room, length-drop n before)
 
-  pub front-more : (m : ℕ) → r ≡ W.Bytes m → Front (x ++ y) (n + m) before (put_mid n (length out - n) out mid)
+  pub front-more : (m : ℕ) → r ≡ Ok m → Front (x ++ y) (n + m) before (put_mid n (length out - n) out mid)
   front-more m e =
       let l = lays out n h mid r y p m e in
       let front : take n out ≡ x = ap (take n) z.lies ∙ take_at x (drop n before) n (sym z.size) in
@@ -261,10 +257,10 @@ module _ (x : List ℕ) (n : ℕ) (before out : List ℕ) (h : n ≤ length out)
         lies = l.lies ∙ ap (λ (u : List ℕ). u ++ (y ++ drop (n + length y) out)) front ∙ ap (λ (u : List ℕ). x ++ (y ++ u)) rest ∙ sym (append_assoc x y (drop (n + m) before));
       }
 
-  pub front-full : r ≡ W.Full → length before < length (x ++ y)
+  pub front-full : r ≡ (Err no_room) → length before < length (x ++ y)
   front-full e = omega (arith, no_room out n h mid r y p e, length-append x y, z.size, front_long)
 
-pub front-prints : (x : List ℕ) (n : ℕ) (before out : List ℕ) → Front x n before out → Prints x before out (W.Bytes n)
+pub front-prints : (x : List ℕ) (n : ℕ) (before out : List ℕ) → Front x n before out → Prints x before out (Ok n)
 front-prints x n before out z =
     prints-fit x before out n (sym z.size) (omega (arith, z.size, z.room)) (z.lies ∙ ap (λ (m : ℕ). x ++ drop m before) z.size)
 
@@ -311,7 +307,7 @@ module _ (spool body : List ℕ) (start from j : ℕ) (before : List ℕ) where
 
   module _ (o : Opened) (at n : ℕ) (going : Bool) (out : List ℕ) (w : Passing spool body start from j before o at n going out) where
     -- no line was seen
-    pub pass-ends : going ≡ true → look_in 1 1 start at body ≡ S.End → Passing spool body start from j before o at n false out
+    pub pass-ends : going ≡ true → look_in 1 1 start at body ≡ None → Passing spool body start from j before o at n false out
     pass-ends g q = record {
       small = w.small;
       long = w.long;
@@ -319,16 +315,16 @@ module _ (spool body : List ℕ) (start from j : ℕ) (before : List ℕ) where
       come = λ k ls t a p. let c = w.come k ls t a p in absurd (subst (λ (fs : List Form). Pass k j fs c.behind c.rest) (forms-end spool body start at c.left c.there q) (c.goes g));
     }
 
-    pub pass-within : Within before out (W.Bytes n)
+    pub pass-within : Within before out (Ok n)
     pass-within = record { long = w.long; within = λ m e. let z : n ≡ m = cc in omega (arith, z, w.within) }
 
-    pub pass-over : going ≡ false → PrintsPass spool body start from j before out (W.Bytes n)
+    pub pass-over : going ≡ false → PrintsPass spool body start from j before out (Ok n)
     pass-over g k ls t a p =
         let c = w.come k ls t a p in
-        subst (λ (u : Text). Prints (line_bytes u) before out (W.Bytes n)) (sym (c.is ∙ ap (λ (u : Text). c.done ++ u) (c.ends g) ∙ append-nil c.done)) (front-prints (line_bytes c.done) n before out c.front)
+        subst (λ (u : Text). Prints (line_bytes u) before out (Ok n)) (sym (c.is ∙ ap (λ (u : Text). c.done ++ u) (c.ends g) ∙ append-nil c.done)) (front-prints (line_bytes c.done) n before out c.front)
 
     -- a line was seen
-    module _ (g : going ≡ true) (f : Seen) (q : look_in 1 1 start at body ≡ S.Line f) (h : Found) (here : FoundHere spool o f.form h) (mid : List ℕ) (r : Wrote)
+    module _ (g : going ≡ true) (f : Seen) (q : look_in 1 1 start at body ≡ Some f) (h : Option Row) (here : FoundHere spool o f.form h) (mid : List ℕ) (r : Result ℕ NoRoom)
         (line : PrintsLine spool j o f.form h (take (length out - n) (drop n out)) mid r) where
       room-there : n ≤ length out
       room-there = omega (arith, w.within, w.long)
@@ -343,7 +339,7 @@ module _ (spool body : List ℕ) (start from j : ℕ) (before : List ℕ) where
           line k (forms_of f.next z.others) c.behind c.rest z.placed here c.holds
           (subst (λ (fs : List Form). Pass k j fs c.behind c.rest) (forms-next spool body start at c.left c.there f q) (c.goes g))
 
-      pub pass-full : r ≡ W.Full → (after : List ℕ) → PrintsPass spool body start from j before after W.Full
+      pub pass-full : r ≡ (Err no_room) → (after : List ℕ) → PrintsPass spool body start from j before after (Err no_room)
       pass-full e after k ls t a p =
           let c = w.come k ls t a p in
           let x = lined k ls t a p in
@@ -358,7 +354,7 @@ module _ (spool body : List ℕ) (start from j : ℕ) (before : List ℕ) where
             front-full (line_bytes c.done) n before out room-there c.front (line_bytes x.text) mid r x.prints e,
           ))
 
-      pub pass_on : (o' : Opened) (over : Bool) (m : ℕ) → r ≡ W.Bytes m → o' ≡ opened_behind o f.form h → over ≡ is_over o f.form
+      pub pass_on : (o' : Opened) (over : Bool) (m : ℕ) → r ≡ Ok m → o' ≡ opened_behind o f.form h → over ≡ is_over o f.form
           → Within (take (length out - n) (drop n out)) mid r → Passing spool body start from j before o' f.next (n + m) (not over) (put_mid n (length out - n) out mid)
       pass_on o' over m e eo ev i = record {
         small = w.small;

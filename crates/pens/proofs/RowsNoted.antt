@@ -1,8 +1,8 @@
 -- Rows that were noted: the row of a number, whether its line opens a block, and the text of a part's rows taken apart at one of them.
+use Rattle.std.specs.Prelude.{Option, Some, None, Result, Ok, Err}
 use Prim.Native.Nat.{ℕ, ◌+◌, ◌*◌, ◌≤◌, ◌<◌}
 use mathlib.Core.Bool.{Bool, true, false, cond, ◌||◌, not}
 use mathlib.Core.List.{List, [], ◌∷◌, ◌++◌, append_assoc}
-use mathlib.Core.Option.{none, some}
 use mathlib.Core.Path.{◌≡◌, refl, sym, ◌∙◌, ap, subst}
 use native.Mathlib.Omega.{arith}
 use borrow.Author.Tests.{ne_eqb, le-ltb, lt-ltb}
@@ -18,12 +18,8 @@ use Rattle.rules.specs.Rows.{Rule, found, find, inner_of, is_opener as isOpenerS
 use Rattle.rules.specs.FixedForm.{opens_block, behind, line_of}
 use Rattle.rules.proofs.Chains.{and_false, clash, never, map-got}
 use Rattle.promises.proofs.RowGood.{Sort, plain, empty_only, brace_only, heads, switch, sort, either-read, either-alone, either-opened}
-use Rattle.leaves.specs.declared.Wrote.{Wrote}
-use Rattle.leaves.specs.declared.Wrote.TheVariants as W
 use Rattle.leaves.specs.Writing.{put_memory, Puts}
 use Rattle.tables.specs.declared.Row.{Row as CodeRow}
-use Rattle.tables.specs.declared.Found.{Found as Finding}
-use Rattle.tables.specs.declared.Found.TheVariants as F
 use Rattle.tables.specs.Rows.{kind_of, rule_of, for_line, found_for_line, found_of}
 use Rattle.tables.specs.Tables.{table_of}
 use Rattle.entries.specs.declared.Rest.{Rest as CodeRest}
@@ -42,6 +38,9 @@ use Rattle.pens.specs.Closing.{row_bytes}
 use Rattle.pens.specs.Writing.{Named, IsRow, RestIs, FoundRow, RowAt, Opens, Spared, PrintsNoted, TellsInner}
 use Rattle.pens.proofs.Laying.{room}
 use Rattle.pens.proofs.Behind.{was-put, was-full, prints-full, prints-none, within-full, spared-same, spared-prints, key_spared}
+use Rattle.leaves.specs.declared.NoRoom.{NoRoom}
+use Rattle.tables.specs.declared.Row.{Row}
+use Rattle.leaves.specs.NoRoom.{no_room}
 
 -- ── a note ──
 pub note-far : (rest : CodeRest) (q : _) → rest ≡ R.Equals q → 65536 ≤ q.at → 1 ≡ note_of rest
@@ -123,9 +122,9 @@ opens-so s row c x n e m b w k q v h z =
     w ∙ ap (λ (i : ℕ). eqb i 0 || eqb i 3) m ∙ sym (opens-sort s x) ∙ ap opens_shape shape ∙ sym (opened-so k q c v z)
 
 -- ── the row of a number ──
-found-row : (table number : ℕ) (q : Rule) (r : Finding) → Named table number q → found number (for_line q) ≡ found_of r → FoundRow table number q r
-found-row table number q F.Absent w e = absurd (let z : ◌≡◌ {A = ℕ} 0 1 = cc in omega arith)
-found-row table number q (F.Row row) w e =
+found-row : (table number : ℕ) (q : Rule) (r : Option Row) → Named table number q → found number (for_line q) ≡ found_of r → FoundRow table number q r
+found-row table number q None w e = absurd (let z : ◌≡◌ {A = ℕ} 0 1 = cc in omega arith)
+found-row table number q (Some row) w e =
     let a : number ≡ row.number = cc in
     let b : for_line q ≡ rule_of row = cc in
     record { rule = sym b; key = sym w.key ∙ ap (key_at (table_of table)) a; number_is = sym a }
@@ -134,20 +133,20 @@ module _ (table number : ℕ) (before after : List ℕ) where
   abbrev key : List ℕ
   key = key_at (table_of table) number
 
-  pub row-full : Puts key before after W.Full → RowAt table number before after F.Absent
+  pub row-full : Puts key before after (Err no_room) → RowAt table number before after None
   row-full p = record {
     memory = p.memory;
     row = λ q w l. absurd (omega (arith, was-full key before after p, l, ap length w.key));
     none-there = λ q w l. refl;
   }
 
-  module _ (n : ℕ) (p : Puts key before after (W.Bytes n)) where
+  module _ (n : ℕ) (p : Puts key before after (Ok n)) where
     pub key-room : n ≤ length after
     key-room =
         let z : (length key ≡ n) × (length key ≤ length before) × (after ≡ key ++ drop (length key) before) = was-put key before after n p in
         omega (arith, z.0, ap length z.2, length-append key (drop (length key) before))
 
-    pub row-there : (r : Finding) → found_for_line (find (take n after) (table_of table)) ≡ found_of r → RowAt table number before after r
+    pub row-there : (r : Option Row) → found_for_line (find (take n after) (table_of table)) ≡ found_of r → RowAt table number before after r
     row-there r e =
         let z : (length key ≡ n) × (length key ≤ length before) × (after ≡ key ++ drop (length key) before) = was-put key before after n p in
         let front : take n after ≡ key = ap (take n) z.2 ∙ take_at key (drop (length key) before) n z.0 in
@@ -162,10 +161,10 @@ module _ (table number : ℕ) (before after : List ℕ) where
 
 -- ── one row, where it was noted ──
 -- a row's line is longer than its key
-line-long : (k : Known) (q : Rule) (v : Value) → length q.key ≤ length (row_bytes k q (some v))
+line-long : (k : Known) (q : Rule) (v : Value) → length q.key ≤ length (row_bytes k q (Some v))
 line-long k q v = omega (arith, length-append (line_of k q v) (13 ∷ 10 ∷ []), length-append q.key (behind k q.holds v))
 
-line_spared : (k : Known) (q : Rule) (v : Value) (before after : List ℕ) → after ≡ put_memory q.key before → Spared (row_bytes k q (some v)) before after
+line_spared : (k : Known) (q : Rule) (v : Value) (before after : List ℕ) → after ≡ put_memory q.key before → Spared (row_bytes k q (Some v)) before after
 line_spared k q v before after e =
     let more : List ℕ = behind k q.holds v in
     subst (λ (u : List ℕ). Spared u before after) (sym (append_assoc q.key more (13 ∷ 10 ∷ []))) (key_spared q.key (more ++ 13 ∷ 10 ∷ []) before after e)
@@ -187,63 +186,63 @@ inner-is r v =
     step false a b p q = q
 
 module _ (spool : List ℕ) (table number note : ℕ) (before : List ℕ) where
-  pub noted-none : note ≡ 0 → PrintsNoted spool table number note before before (W.Bytes 0)
-  noted-none e k q none w z = prints-none before
-  noted-none e k q (some v) w z = absurd (omega (arith, e, z.0))
+  pub noted-none : note ≡ 0 → PrintsNoted spool table number note before before (Ok 0)
+  noted-none e k q None w z = prints-none before
+  noted-none e k q (Some v) w z = absurd (omega (arith, e, z.0))
 
   pub inner-none : (base : ℕ) → note ≡ 0 → TellsInner spool base table number note before before 255
-  inner-none base e k q none w z = (spared-same [] before, λ _. refl)
-  inner-none base e k q (some v) w z = absurd (omega (arith, e, z.0))
+  inner-none base e k q None w z = (spared-same [] before, λ _. refl)
+  inner-none base e k q (Some v) w z = absurd (omega (arith, e, z.0))
 
-  module _ (mid : List ℕ) (r : Finding) (there : note ≡ 0 → ⊥) (a : RowAt table number before mid r) where
+  module _ (mid : List ℕ) (r : Option Row) (there : note ≡ 0 → ⊥) (a : RowAt table number before mid r) where
     mid-long : length mid ≡ length before
     mid-long = (key_spared (key_at (table_of table) number) [] before mid a.memory).long
 
-    mid_spared : (k : Known) (q : Rule) (v : Value) → Named table number q → Spared (row_bytes k q (some v)) before mid
+    mid_spared : (k : Known) (q : Rule) (v : Value) → Named table number q → Spared (row_bytes k q (Some v)) before mid
     mid_spared k q v w = line_spared k q v before mid (a.memory ∙ ap (λ (u : List ℕ). put_memory u before) w.key)
 
-    module _ (e : r ≡ F.Absent) where
+    module _ (e : r ≡ None) where
       no_room : (q : Rule) → Named table number q → length q.key ≤ length before → ⊥
       no_room q w l = rw e at (a.row q w l)
 
-      pub noted-absent : Within before mid W.Full × PrintsNoted spool table number note before mid W.Full
+      pub noted-absent : Within before mid (Err no_room) × PrintsNoted spool table number note before mid (Err no_room)
       noted-absent = (within-full before mid mid-long, prints)
         where
-          prints : PrintsNoted spool table number note before mid W.Full
-          prints k q none w z = absurd (there z)
-          prints k q (some v) w z =
+          prints : PrintsNoted spool table number note before mid (Err no_room)
+          prints k q None w z = absurd (there z)
+          prints k q (Some v) w z =
               room (length q.key) (length before) (λ l. absurd (no_room q w l))
-              (λ l. prints-full (row_bytes k q (some v)) before mid (omega (arith, l, line-long k q v)))
+              (λ l. prints-full (row_bytes k q (Some v)) before mid (omega (arith, l, line-long k q v)))
 
       pub inner-absent : (base : ℕ) → TellsInner spool base table number note before mid 255
-      inner-absent base k q none w z = absurd (there z)
-      inner-absent base k q (some v) w z = (mid_spared k q v w, λ l. absurd (no_room q w (omega (arith, l, line-long k q v))))
+      inner-absent base k q None w z = absurd (there z)
+      inner-absent base k q (Some v) w z = (mid_spared k q v w, λ l. absurd (no_room q w (omega (arith, l, line-long k q v))))
 
-    module _ (row : CodeRow) (e : r ≡ F.Row row) (rest : CodeRest) (m : RestIs row note rest) where
+    module _ (row : CodeRow) (e : r ≡ Some row) (rest : CodeRest) (m : RestIs row note rest) where
       -- the row is found where there is room for its key
       row_is : (q : Rule) → Named table number q → length q.key ≤ length before → IsRow table number q row
       row_is q w l = subst (FoundRow table number q) e (a.row q w l)
 
       has_room : (q : Rule) → Named table number q → length before < length q.key → ⊥
-      has_room q w l = let f : F.Absent ≡ F.Row row = sym (a.none-there q w l) ∙ e in let z : ◌≡◌ {A = ℕ} 0 1 = cc in omega (arith, z)
+      has_room q w l = let f : None ≡ Some row = sym (a.none-there q w l) ∙ e in let z : ◌≡◌ {A = ℕ} 0 1 = cc in omega (arith, z)
 
       reads_so : (k : Known) (q : Rule) (v : Value) → IsRow table number q row → Reads k q (rest_of spool q.holds note) v → Reads k q (rest_in spool rest) v
       reads_so k q v w z =
           subst (λ (x : Rest). Reads k q x v) (sym (m spool ∙ ap (λ (u : Rule). rest_of spool u.holds note) w.rule)) z
 
-      pub noted-line : (after : List ℕ) (wrote : Wrote) → Within mid after wrote
+      pub noted-line : (after : List ℕ) (wrote : Result ℕ NoRoom) → Within mid after wrote
           → PrintsRow table row (rest_in spool rest) mid after wrote
           → Within before after wrote × PrintsNoted spool table number note before after wrote
       noted-line after wrote y p =
           (record { long = y.long ∙ mid-long; within = λ n z. omega (arith, y.within n z, mid-long) }, prints)
         where
           prints : PrintsNoted spool table number note before after wrote
-          prints k q none w z = absurd (there z)
-          prints k q (some v) w z =
+          prints k q None w z = absurd (there z)
+          prints k q (Some v) w z =
               room (length q.key) (length before)
               (λ l.
               let x : IsRow table number q row = row_is q w l in
-              spared-prints (row_bytes k q (some v)) before mid after wrote (mid_spared k q v w) (p k q v x.rule x.key (reads_so k q v x z.1)))
+              spared-prints (row_bytes k q (Some v)) before mid after wrote (mid_spared k q v w) (p k q v x.rule x.key (reads_so k q v x z.1)))
               (λ l. absurd (has_room q w l))
 
       module _ (base : ℕ) (b : Bool) (o : Opens row (rest_in spool rest) b) where
@@ -251,16 +250,16 @@ module _ (spool : List ℕ) (table number note : ℕ) (before : List ℕ) where
         opens-is k q v x z = o k q v x.rule (reads_so k q v x z)
 
         pub inner-shut : b ≡ false → TellsInner spool base table number note before mid 255
-        inner-shut s k q none w z = absurd (there z)
-        inner-shut s k q (some v) w z = (
+        inner-shut s k q None w z = absurd (there z)
+        inner-shut s k q (Some v) w z = (
           mid_spared k q v w,
           λ l. let x : IsRow table number q row = row_is q w (omega (arith, l, line-long k q v)) in
               sym (rw (sym (opens-is k q v x z.1) ∙ s)),
         )
 
         pub inner_open : b ≡ true → (t : ℕ) → t ≡ part_table base row.inner → TellsInner spool base table number note before mid t
-        inner_open s t g k q none w z = absurd (there z)
-        inner_open s t g k q (some v) w z = (
+        inner_open s t g k q None w z = absurd (there z)
+        inner_open s t g k q (Some v) w z = (
           mid_spared k q v w,
           λ l. let x : IsRow table number q row = row_is q w (omega (arith, l, line-long k q v)) in
               let does : opens_block q.holds v ≡ true = sym (opens-is k q v x z.1) ∙ s in

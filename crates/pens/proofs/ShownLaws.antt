@@ -1,8 +1,8 @@
 -- What the fixed form writes of lists and blocks: what follows is written behind it, and one more item is one more piece at the end.
+use Rattle.std.specs.Prelude.{Option, Some, None}
 use Prim.Native.Nat.{ℕ, zero, suc}
 use mathlib.Core.Bool.{Bool, true, false, cond}
 use mathlib.Core.List.{List, [], ◌∷◌, ◌++◌, append_assoc}
-use mathlib.Core.Option.{Option, none, some}
 use mathlib.Core.Path.{◌≡◌, refl, sym, ◌∙◌, ap}
 use native.Mathlib.Omega.{arith}
 use borrow.Author.Tests.{eqb-true}
@@ -61,8 +61,8 @@ module _ (k : Known) where
         go false = refl
 
     pub slot-more : (r : Rule) (o : Option Value) → Before (show_slot k r o inner)
-    slot-more r none ls = refl
-    slot-more r (some v) ls = value-more r v ls
+    slot-more r None ls = refl
+    slot-more r (Some v) ls = value-more r v ls
 
     pub slots-more : (t : List Rule) (s : Slots) → Before (show_slots k t s inner)
     slots-more [] s ls = refl
@@ -81,8 +81,8 @@ module _ (k : Known) where
   pub slots-flat : (inner : ℕ → Text → Text) (t : List Rule) → all opens_nothing t ≡ true → (s : Slots) (ls : Text) → show_slots k t s inner ls ≡ show_slots k t s no_inner ls
   slots-flat inner [] e s ls = refl
   slots-flat inner (r ∷ t) e [] ls = refl
-  slots-flat inner (r ∷ t) e (none ∷ s) ls = slots-flat inner t (and_right (opens_nothing r) _ e) s ls
-  slots-flat inner (r ∷ t) e (some v ∷ s) ls = rw (opens_not r v (and_left (opens_nothing r) _ e), slots-flat inner t (and_right (opens_nothing r) _ e) s ls)
+  slots-flat inner (r ∷ t) e (None ∷ s) ls = slots-flat inner t (and_right (opens_nothing r) _ e) s ls
+  slots-flat inner (r ∷ t) e (Some v ∷ s) ls = rw (opens_not r v (and_left (opens_nothing r) _ e), slots-flat inner t (and_right (opens_nothing r) _ e) s ls)
 
   pub none_more : (i : ℕ) → Before (no_inner i)
   none_more i ls = refl

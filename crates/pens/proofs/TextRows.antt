@@ -1,4 +1,5 @@
 -- A text's rows, as they are noted and written.
+use Rattle.std.specs.Prelude.{Result}
 use Prim.Native.Nat.{ℕ, zero, suc, ◌<◌}
 use mathlib.Core.Bool.{Bool, true, false, cond}
 use mathlib.Core.List.{List, [], ◌∷◌, ◌++◌}
@@ -10,7 +11,6 @@ use Rattle.rules.specs.Values.{Known}
 use Rattle.rules.specs.Rows.{Slots, part_of}
 use Rattle.rules.specs.Figures.{text_table}
 use Rattle.rules.specs.FixedForm.{Text, no_inner, show_slots}
-use Rattle.leaves.specs.declared.Wrote.{Wrote}
 use Rattle.prints.specs.Printing.{Prints}
 use Rattle.pens.specs.declared.groups.Opened.{Opened}
 use Rattle.pens.specs.Texts.{line_bytes}
@@ -22,6 +22,7 @@ use Rattle.pens.proofs.Laying.{bytes-append}
 use Rattle.pens.proofs.ShownLaws.{opens_nothing, slots-flat, slots-more, none_more}
 use Rattle.pens.proofs.PartsNoted.{depth-rows}
 use Rattle.pens.proofs.Closings.{tables-some}
+use Rattle.leaves.specs.declared.NoRoom.{NoRoom}
 
 pub text-flat : (b : Bool) → all opens_nothing (text_table b 4 12) ≡ true
 unfolding text_table
@@ -60,7 +61,7 @@ text-bytes k b o = go b (text-flat b)
     go false f = rows false (show_depth k (tables_of 17) (o ∷ []) 2) f
 
 -- the text of a wire that is open, with its `}`
-pub text-prints : (spool : List ℕ) (o : Opened) (ns before after : List ℕ) (r : Wrote) → ns ≡ text_notes o → PrintsPart spool 3 16 16 ns before after r → PrintsText spool o before after r
+pub text-prints : (spool : List ℕ) (o : Opened) (ns before after : List ℕ) (r : Result ℕ NoRoom) → ns ≡ text_notes o → PrintsPart spool 3 16 16 ns before after r → PrintsText spool o before after r
 text-prints spool o ns before after r e w k s z =
     let parts : NotedParts spool k 16 ns (s ∷ []) = text-parts spool k true ns s (subst (λ (u : List ℕ). NotedRows spool k (text_table true 4 12) 4 u s) (sym e) z) in
     subst (λ (u : List ℕ). Prints u before after r)

@@ -1,4 +1,5 @@
 -- Texts written into the rest of the output, one behind the other, and parts of it exchanged.
+use Rattle.std.specs.Prelude.{Result, Ok, Err}
 use Prim.Native.Nat.{ℕ, ◌+◌, ◌-◌, ◌≤◌, ◌<◌}
 use mathlib.Core.Bool.{Bool, true, false, cond}
 use mathlib.Core.List.{List, [], ◌++◌, append_assoc, append-nil}
@@ -9,22 +10,20 @@ use borrow.Rule.Slice.PartMut.{put_mid, same_len_mid}
 use lib.Dec.{leb}
 use lib.ListN.{length, take, drop, length-append, length-drop, drop_of_length-le, take-append-drop}
 use lib.Seq.{take_at, drop_at, drop-drop, drop-append-add, length-take-le, take-add}
-use Rattle.leaves.specs.declared.Wrote.{Wrote}
-use Rattle.leaves.specs.declared.Wrote.TheVariants as W
 use Rattle.leaves.proofs.Scan.{rest_all}
 use Rattle.prints.specs.Printing.{Prints, Within}
 use Rattle.pens.specs.declared.Pen.{Pen}
-use Rattle.pens.specs.declared.Drawn.{Drawn}
-use Rattle.pens.specs.declared.Drawn.TheVariants as D
 use Rattle.pens.specs.Texts.{laid, Draws, Inserts, Safe}
 use Rattle.pens.specs.Moves.{moved}
 use Rattle.pens.specs.KeyWriting.{Kept}
 use Rattle.pens.proofs.Laying.{front_of}
+use Rattle.leaves.specs.declared.NoRoom.{NoRoom}
+use Rattle.leaves.specs.NoRoom.{no_room}
 
-full-bytes : {P : Type 0} {n : ℕ} → W.Full ≡ W.Bytes n → P
+full-bytes : {P : Type 0} {n : ℕ} → (Err no_room) ≡ Ok n → P
 full-bytes e = absurd (let z : ◌≡◌ {A = ℕ} 0 1 = cc in omega arith)
 
-same_bytes : (n m : ℕ) → W.Bytes n ≡ W.Bytes m → n ≡ m
+same_bytes : (n m : ℕ) → Ok n ≡ Ok m → n ≡ m
 same_bytes n m e = cc
 
 -- n bytes were written at a place, and they are x
@@ -34,7 +33,7 @@ pub record Lays (x : List ℕ) (n a : ℕ) (before after : List ℕ) : Type 0 wh
   pub lies : after ≡ laid x a before
 
 -- ── a text in the rest of the output, which was lent ──
-module _ (out : List ℕ) (a : ℕ) (h : a ≤ length out) (w : List ℕ) (r : Wrote) where
+module _ (out : List ℕ) (a : ℕ) (h : a ≤ length out) (w : List ℕ) (r : Result ℕ NoRoom) where
   abbrev rest : List ℕ
   rest = take (length out - a) (drop a out)
 
@@ -54,23 +53,23 @@ module _ (out : List ℕ) (a : ℕ) (h : a ≤ length out) (w : List ℕ) (r : W
     pub kept-long : length whole ≡ length out
     kept-long = same_len_mid a (length out - a) out w i.long
 
-    pub room-left : (n : ℕ) → r ≡ W.Bytes n → a + n ≤ length out
+    pub room-left : (n : ℕ) → r ≡ Ok n → a + n ≤ length out
     room-left n e = omega (arith, i.within n e, rest-long, h)
 
-    pub kept-go : (n : ℕ) (next p : Pen) → r ≡ W.Bytes n → p ≡ next → next.start ≤ a + n → next.at ≡ a + n → Kept out whole (D.Go p)
+    pub kept-go : (n : ℕ) (next p : Pen) → r ≡ Ok n → p ≡ next → next.start ≤ a + n → next.at ≡ a + n → Kept out whole (Ok p)
     kept-go n next p e q s t =
-        subst (λ (x : Pen). Kept out whole (D.Go x)) (sym q)
+        subst (λ (x : Pen). Kept out whole (Ok x)) (sym q)
         record { safe = record { begun = omega (arith, s, t); within = omega (arith, t, room-left n e, kept-long) }; long = kept-long }
 
-    pub kept_full : Kept out whole D.Full
+    pub kept_full : Kept out whole (Err no_room)
     kept_full = record { safe = tt; long = kept-long }
 
   -- the text x, or there is no room for it
   module _ (x : List ℕ) (i : Prints x rest w r) where
-    pub lays : (n : ℕ) → r ≡ W.Bytes n → Lays x n a out whole
+    pub lays : (n : ℕ) → r ≡ Ok n → Lays x n a out whole
     lays n e = go (leb (length x) (length rest)) refl (sym e ∙ i.answer)
       where
-        go : (t : Bool) → leb (length x) (length rest) ≡ t → W.Bytes n ≡ cond t (W.Bytes (length x)) W.Full → Lays x n a out whole
+        go : (t : Bool) → leb (length x) (length rest) ≡ t → Ok n ≡ cond t (Ok (length x)) (Err no_room) → Lays x n a out whole
         go true f z =
             let l : length x ≤ length rest = leb-true (length x) (length rest) f in
             record {
@@ -82,19 +81,19 @@ module _ (out : List ℕ) (a : ℕ) (h : a ≤ length out) (w : List ℕ) (r : W
             }
         go false f z = full-bytes (sym z)
 
-    pub no_room : r ≡ W.Full → length out < a + length x
+    pub no_room : r ≡ (Err no_room) → length out < a + length x
     no_room e = go (leb (length x) (length rest)) refl (sym e ∙ i.answer)
       where
-        go : (t : Bool) → leb (length x) (length rest) ≡ t → W.Full ≡ cond t (W.Bytes (length x)) W.Full → length out < a + length x
+        go : (t : Bool) → leb (length x) (length rest) ≡ t → (Err no_room) ≡ cond t (Ok (length x)) (Err no_room) → length out < a + length x
         go true f z = full-bytes z
         go false f z = let l : length rest < length x = leb-false (length x) (length rest) f in omega (arith, l, rest-long, h)
 
 -- ── what is drawn with it ──
-pub drawn-none : (x : List ℕ) (a : ℕ) (next : Pen) (before after : List ℕ) → length before < a + length x → Draws x a next before after D.Full
+pub drawn-none : (x : List ℕ) (a : ℕ) (next : Pen) (before after : List ℕ) → length before < a + length x → Draws x a next before after (Err no_room)
 drawn-none x a next before after h = record { drawn = λ f. absurd (omega (arith, f, h)); full = λ _. refl }
 
 -- nothing
-pub drawn-nothing : (a : ℕ) (p : Pen) (out : List ℕ) → a ≤ length out → Draws [] a p out out (D.Go p)
+pub drawn-nothing : (a : ℕ) (p : Pen) (out : List ℕ) → a ≤ length out → Draws [] a p out out (Ok p)
 drawn-nothing a p out h = record { drawn = λ f. (refl, same); full = λ f. absurd (omega (arith, f, h)) }
   where
     none : a + 0 ≡ a
@@ -110,8 +109,8 @@ laid-behind u v y b e =
     ∙ ap (λ (l : List ℕ). u ++ (y ++ l)) (ap (λ (k : ℕ). drop (k + length y) (u ++ v)) (sym e) ∙ drop-append-add u v (length y))
 
 module _ (x : List ℕ) (n a : ℕ) (before after : List ℕ) (l : Lays x n a before after) where
-  pub drawn-go : (next : ℕ → Pen) (p : Pen) → p ≡ next n → Draws x a (next (length x)) before after (D.Go p)
-  drawn-go next p e = record { drawn = λ f. (ap D.Go (e ∙ ap next l.size), l.lies); full = λ f. absurd (omega (arith, f, l.room)) }
+  pub drawn-go : (next : ℕ → Pen) (p : Pen) → p ≡ next n → Draws x a (next (length x)) before after (Ok p)
+  drawn-go next p e = record { drawn = λ f. (ap Ok (e ∙ ap next l.size), l.lies); full = λ f. absurd (omega (arith, f, l.room)) }
 
   abbrev beyond : List ℕ
   beyond = drop (a + length x) before
@@ -125,7 +124,7 @@ module _ (x : List ℕ) (n a : ℕ) (before after : List ℕ) (l : Lays x n a be
       ∙ omega (arith, l.room, length-append x beyond, length-drop (a + length x) before, front_long)
 
   -- another text behind it
-  module _ (y last : List ℕ) (next : Pen) (d : Drawn) where
+  module _ (y last : List ℕ) (next : Pen) (d : Result Pen NoRoom) where
     both_long : a + length (x ++ y) ≡ a + length x + length y
     both_long = omega (arith, length-append x y)
 
@@ -206,7 +205,7 @@ module _ (x : List ℕ) (n a : ℕ) (before after : List ℕ) (l : Lays x n a be
           ∙ omega (arith, changed-long, length-drop (a + length x) before, l.room, l.size)
 
       -- and a text behind both
-      pub inserted : (y last : List ℕ) (next : Pen) (d : Drawn) → Draws y (a + n) next changed last d → Inserts x y start a next before last d
+      pub inserted : (y last : List ℕ) (next : Pen) (d : Result Pen NoRoom) → Draws y (a + n) next changed last d → Inserts x y start a next before last d
       inserted y last next d w = record {
         drawn = λ f. let (go, lies) = w.drawn (omega (arith, f, all-long, l.size)) in (go, lies ∙ now-there);
         full = λ f. w.full (omega (arith, f, all-long, l.size));
@@ -221,7 +220,7 @@ module _ (x : List ℕ) (n a : ℕ) (before after : List ℕ) (l : Lays x n a be
               ∙ ap (λ (u : List ℕ). take start before ++ u) (append_assoc x inner (y ++ drop (a + length x + length y) before))
 
 -- there is no room for the text that comes first
-pub inserted-none : (x y : List ℕ) (start a : ℕ) (next : Pen) (before after : List ℕ) → length before < a + length x → Inserts x y start a next before after D.Full
+pub inserted-none : (x y : List ℕ) (start a : ℕ) (next : Pen) (before after : List ℕ) → length before < a + length x → Inserts x y start a next before after (Err no_room)
 inserted-none x y start a next before after h = record { drawn = λ f. absurd (omega (arith, f, h)); full = λ _. refl }
 
 -- two parts exchanged are as long as before
@@ -236,7 +235,7 @@ turned-kept start to m before part e =
     same_len_mid start (to - start) before part (ap (λ (u : List ℕ). length u) e ∙ turned-long m (take (to - start) (drop start before)))
 
 -- ── whatever was written, exchanged with what stands before it, and whatever is written behind that ──
-module _ (out : List ℕ) (a : ℕ) (h : a ≤ length out) (w : List ℕ) (r : Wrote) (i : Within (take (length out - a) (drop a out)) w r) (n : ℕ) (e : r ≡ W.Bytes n) (start : ℕ) (part : List ℕ) where
+module _ (out : List ℕ) (a : ℕ) (h : a ≤ length out) (w : List ℕ) (r : Result ℕ NoRoom) (i : Within (take (length out - a) (drop a out)) w r) (n : ℕ) (e : r ≡ Ok n) (start : ℕ) (part : List ℕ) where
   abbrev wrote : List ℕ
   wrote = put_mid a (length out - a) out w
 
@@ -250,7 +249,7 @@ module _ (out : List ℕ) (a : ℕ) (h : a ≤ length out) (w : List ℕ) (r : W
     pub turned-room : a + n ≤ length turned
     turned-room = omega (arith, room-left out a h w r i n e, turned_same)
 
-    module _ (w₂ : List ℕ) (r₂ : Wrote) where
+    module _ (w₂ : List ℕ) (r₂ : Result ℕ NoRoom) where
       abbrev second : List ℕ
       second = take (length turned - (a + n)) (drop (a + n) turned)
 
@@ -260,26 +259,26 @@ module _ (out : List ℕ) (a : ℕ) (h : a ≤ length out) (w : List ℕ) (r : W
       pub last-same : Within second w₂ r₂ → length last ≡ length out
       last-same j = kept-long turned (a + n) turned-room w₂ r₂ j ∙ turned_same
 
-      pub last-room : Within second w₂ r₂ → (m : ℕ) → r₂ ≡ W.Bytes m → a + n + m ≤ length out
+      pub last-room : Within second w₂ r₂ → (m : ℕ) → r₂ ≡ Ok m → a + n + m ≤ length out
       last-room j m f = omega (arith, room-left turned (a + n) turned-room w₂ r₂ j m f, turned_same)
 
-      pub last-full : Within second w₂ r₂ → Kept out last D.Full
+      pub last-full : Within second w₂ r₂ → Kept out last (Err no_room)
       last-full j = record { safe = tt; long = last-same j }
 
-      pub last-lays : (y : List ℕ) → Prints y second w₂ r₂ → (m : ℕ) → r₂ ≡ W.Bytes m → Lays y m (a + n) turned last
+      pub last-lays : (y : List ℕ) → Prints y second w₂ r₂ → (m : ℕ) → r₂ ≡ Ok m → Lays y m (a + n) turned last
       last-lays y j m f = lays turned (a + n) turned-room w₂ r₂ y j m f
 
-      pub last_none : (y : List ℕ) → Prints y second w₂ r₂ → r₂ ≡ W.Full → length turned < a + n + length y
+      pub last_none : (y : List ℕ) → Prints y second w₂ r₂ → r₂ ≡ (Err no_room) → length turned < a + n + length y
       last_none y j f = no_room turned (a + n) turned-room w₂ r₂ y j f
 
 -- ── the pen within the output, step by step ──
-pub kept_then : (before mid after : List ℕ) (d : Drawn) → length mid ≡ length before → Kept mid after d → Kept before after d
+pub kept_then : (before mid after : List ℕ) (d : Result Pen NoRoom) → length mid ≡ length before → Kept mid after d → Kept before after d
 kept_then before mid after d e k = record { safe = k.safe; long = k.long ∙ e }
 
 -- nothing was written
-pub kept-still : (out : List ℕ) (p : Pen) → Safe p out → Kept out out (D.Go p)
+pub kept-still : (out : List ℕ) (p : Pen) → Safe p out → Kept out out (Ok p)
 kept-still out p s = record { safe = s; long = refl }
 
-pub kept-moved : (out : List ℕ) (p q : Pen) (block part : ℕ) → Safe p out → q ≡ moved p 0 block part → Kept out out (D.Go q)
+pub kept-moved : (out : List ℕ) (p q : Pen) (block part : ℕ) → Safe p out → q ≡ moved p 0 block part → Kept out out (Ok q)
 kept-moved out p q block part s e =
-    subst (λ (x : Pen). Kept out out (D.Go x)) (sym e) record { safe = record { begun = omega (arith, s.begun); within = omega (arith, s.within) }; long = refl }
+    subst (λ (x : Pen). Kept out out (Ok x)) (sym e) record { safe = record { begun = omega (arith, s.begun); within = omega (arith, s.within) }; long = refl }

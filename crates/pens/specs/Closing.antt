@@ -1,6 +1,5 @@
 -- What a line `}` does, by the block that is open.
-use Rattle.std.specs.Prelude.{ℕ, suc, ◌+◌, Bool, cond, ◌&&◌, ◌||◌, not, eqb, ◌≡◌, List, [], ◌++◌, length, get_or, take}
-use Rattle.std.proofs.Math.Option.{Option, none, some}
+use Rattle.std.specs.Prelude.{ℕ, suc, ◌+◌, Bool, cond, ◌&&◌, ◌||◌, not, eqb, ◌≡◌, List, [], ◌++◌, length, get_or, take, Option, Some, None, Result, Ok}
 use Rattle.rules.specs.Base.{bytes}
 use Rattle.rules.specs.Values.{Value, Known}
 use Rattle.rules.specs.Rows.{Rule, Slots, Held}
@@ -8,8 +7,6 @@ use Rattle.rules.specs.Blocks.{drawing_table, symbol_table, around}
 use Rattle.rules.specs.RecordTable.{rule_at}
 use Rattle.rules.specs.FixedForm.{Text, no_inner, line_of, show_slots}
 use Rattle.pens.specs.declared.Pen.{Pen}
-use Rattle.pens.specs.declared.Drawn.{Drawn}
-use Rattle.pens.specs.declared.Drawn.TheVariants as D
 use Rattle.pens.specs.Texts.{ended, line_bytes, Draws, Inserts}
 use Rattle.pens.specs.Moves.{moved}
 use Rattle.pens.specs.Noting.{Noted, NotedRows, tables_of, NotedParts, show_depth}
@@ -17,41 +14,42 @@ use Rattle.pens.specs.Groups.{WireKeys, keys_text, key_rows}
 use Rattle.tables.specs.Numbering.{table_file, table_later, table_layer_text, table_symbol_text, table_placed}
 use Rattle.account.specs.Numbering.{block_top, block_file, block_drawing, block_layer_names, block_defines, block_symbol, block_hide, block_elements, block_figures}
 use Rattle.account.specs.Numbering.{block_chain, block_text, block_placed, block_wire}
+use Rattle.leaves.specs.declared.NoRoom.{NoRoom}
 
 abbrev pub shut_bytes : List ℕ
 shut_bytes = ended (bytes "}")
 
 -- the block around
-abbrev pub Shuts : Pen → ℕ → List ℕ → List ℕ → Drawn → Type 0
+abbrev pub Shuts : Pen → ℕ → List ℕ → List ℕ → Result Pen NoRoom → Type 0
 Shuts p block before after d = Draws shut_bytes p.at (moved p 3 block 0) before after d
 
 -- the rows of a block, in the order of its tables, and its `}`
 abbrev pub rows_bytes : Known → ℕ → Held → List ℕ
 rows_bytes k b h = line_bytes (show_depth k (tables_of b) h 3 0 []) ++ shut_bytes
 
-abbrev pub ShutsRows : List ℕ → ℕ → Pen → ℕ → List ℕ → List ℕ → List ℕ → Drawn → Type 0
+abbrev pub ShutsRows : List ℕ → ℕ → Pen → ℕ → List ℕ → List ℕ → List ℕ → Result Pen NoRoom → Type 0
 ShutsRows spool b p block ns before after d =
     (k : Known) (h : Held) → NotedParts spool k b ns h → Draws (rows_bytes k b h) p.at (moved p (length (rows_bytes k b h)) block 0) before after d
 
 -- an inner part closes: nothing is written
-abbrev pub ShutsPart : Pen → ℕ → ℕ → List ℕ → List ℕ → Drawn → Type 0
-ShutsPart p block part before after d = (d ≡ D.Go (moved p 0 block part)) × (after ≡ before)
+abbrev pub ShutsPart : Pen → ℕ → ℕ → List ℕ → List ℕ → Result Pen NoRoom → Type 0
+ShutsPart p block part before after d = (d ≡ Ok (moved p 0 block part)) × (after ≡ before)
 
 -- DRAWING_FORMAT: its rows come before `layer_name`
 abbrev pub drawing_rows : Known → Slots → List ℕ
 drawing_rows k s = line_bytes (show_slots k (take 7 drawing_table) s no_inner [])
 
-abbrev pub ShutsDrawing : List ℕ → Pen → List ℕ → List ℕ → List ℕ → Drawn → Type 0
+abbrev pub ShutsDrawing : List ℕ → Pen → List ℕ → List ℕ → List ℕ → Result Pen NoRoom → Type 0
 ShutsDrawing spool p ns before after d =
     (k : Known) (s : Slots) → NotedRows spool k (take 7 drawing_table) 0 ns s
     → Inserts (drawing_rows k s) shut_bytes p.start p.at (moved p (length (drawing_rows k s) + 3) block_top 0) before after d
 
 -- a symbol: its name comes before its `element` and `hide`, `wall` behind them
 abbrev pub row_bytes : Known → Rule → Option Value → List ℕ
-row_bytes k r none = []
-row_bytes k r (some v) = ended (line_of k r v)
+row_bytes k r None = []
+row_bytes k r (Some v) = ended (line_of k r v)
 
-abbrev pub ShutsSymbol : List ℕ → Pen → List ℕ → List ℕ → List ℕ → Drawn → Type 0
+abbrev pub ShutsSymbol : List ℕ → Pen → List ℕ → List ℕ → List ℕ → Result Pen NoRoom → Type 0
 ShutsSymbol spool p ns before after d =
     (k : Known) (a b : Option Value) → Noted spool k (rule_at symbol_table 0) (get_or ns 0 0) a → Noted spool k (rule_at symbol_table 3) (get_or ns 3 0) b
     → Inserts (row_bytes k (rule_at symbol_table 0) a) (row_bytes k (rule_at symbol_table 3) b ++ shut_bytes) p.start p.at
@@ -61,7 +59,7 @@ ShutsSymbol spool p ns before after d =
 abbrev pub wire_bytes : (ℕ → Text) → List ℕ
 wire_bytes t = line_bytes (keys_text t key_rows) ++ shut_bytes
 
-abbrev pub ShutsWire : List ℕ → List ℕ → ℕ → ℕ → Pen → List ℕ → List ℕ → List ℕ → Drawn → Type 0
+abbrev pub ShutsWire : List ℕ → List ℕ → ℕ → ℕ → Pen → List ℕ → List ℕ → List ℕ → Result Pen NoRoom → Type 0
 ShutsWire spool body start from p ns before after d =
     (k : Known) (t : ℕ → Text) → WireKeys spool body start from k ns t
     → Draws (wire_bytes t) p.at (moved p (length (wire_bytes t)) block_figures 0) before after d
@@ -83,7 +81,7 @@ part_closed p =
     (cond (eqb p.block block_wire) (moved p 0 block_wire 0) (moved p 0 block_placed 0))
 
 -- by the block that is open; of a wire, that its text closes
-pub record CloseDone (spool : List ℕ) (first : Bool) (p : Pen) (ns before after : List ℕ) (d : Drawn) : Type 0 where
+pub record CloseDone (spool : List ℕ) (first : Bool) (p : Pen) (ns before after : List ℕ) (d : Result Pen NoRoom) : Type 0 where
   pub figures : p.block ≡ block_figures → Shuts p (cond p.layered block_elements block_symbol) before after d
   pub chain : p.block ≡ block_chain → Shuts p block_figures before after d
   pub wire-text : p.block ≡ block_wire → (i : ℕ) → p.part ≡ suc i → ShutsPart p block_wire 0 before after d
@@ -100,5 +98,5 @@ pub record CloseDone (spool : List ℕ) (first : Bool) (p : Pen) (ns before afte
   pub elements : p.block ≡ block_elements → Shuts p block_top before after d
 
 -- and that it closes itself
-abbrev pub WireDone : List ℕ → List ℕ → ℕ → ℕ → Pen → List ℕ → List ℕ → List ℕ → Drawn → Type 0
+abbrev pub WireDone : List ℕ → List ℕ → ℕ → ℕ → Pen → List ℕ → List ℕ → List ℕ → Result Pen NoRoom → Type 0
 WireDone spool body start from p ns before after d = p.block ≡ block_wire → p.part ≡ 0 → ShutsWire spool body start from p ns before after d

@@ -1,6 +1,5 @@
 -- What the code promises of a pass over a wire's lines, and of all keys of the wire.
-use Rattle.std.specs.Prelude.{ℕ, zero, suc, ◌+◌, ◌≤◌, ◌<◌, Bool, true, false, cond, ◌≡◌, List, [], ◌∷◌, ◌++◌, eqb, get_or}
-use Rattle.std.proofs.Math.Option.{Option}
+use Rattle.std.specs.Prelude.{ℕ, zero, suc, ◌+◌, ◌≤◌, ◌<◌, Bool, true, false, cond, ◌≡◌, List, [], ◌∷◌, ◌++◌, eqb, get_or, Option, Some, None, Result}
 use Rattle.rules.specs.declared.Span.{Span}
 use Rattle.rules.specs.declared.LineForm.{LineForm}
 use Rattle.rules.specs.declared.LineForm.TheVariants as L
@@ -11,10 +10,7 @@ use Rattle.rules.specs.Rows.{Slots, find}
 use Rattle.rules.specs.Figures.{wire_table, wire_text_table, wire_text_row, first_group_row}
 use Rattle.rules.specs.RecordTable.{rule_at}
 use Rattle.rules.specs.FixedForm.{Text, no_inner, show_slot, show_slots}
-use Rattle.leaves.specs.declared.Wrote.{Wrote}
 use Rattle.tables.specs.declared.Row.{Row}
-use Rattle.tables.specs.declared.Found.{Found}
-use Rattle.tables.specs.declared.Found.TheVariants as F
 use Rattle.tables.specs.Rows.{found_of, found_for_line}
 use Rattle.tables.specs.Tables.{table_of}
 use Rattle.tables.specs.Numbering.{table_layer_text, table_wire}
@@ -29,6 +25,7 @@ use Rattle.pens.specs.Texts.{line_bytes}
 use Rattle.pens.specs.Noting.{note_of, notes_from, Noted, NotedRows}
 use Rattle.pens.specs.Keys.{PlacedCode}
 use Rattle.pens.specs.Passing.{LinesAt, forms_of, Amid, outside, inside, Pass}
+use Rattle.leaves.specs.declared.NoRoom.{NoRoom}
 
 -- ── what is open, in code ──
 abbrev pub no_text : Opened
@@ -68,45 +65,45 @@ rest_here (L.Equals q) = R.Equals q.rest
 rest_here (L.Refused r) = R.Brace
 
 -- the row of its key
-abbrev pub FoundUnder : List ℕ → Opened → Span → Found → Type 0
+abbrev pub FoundUnder : List ℕ → Opened → Span → Option Row → Type 0
 FoundUnder spool o key g = found_for_line (find (bytes_at spool key) (table_of (table_amid o))) ≡ found_of g
 
-abbrev pub FoundHere : List ℕ → Opened → LineForm → Found → Type 0
-FoundHere spool o L.Ignored g = g ≡ F.Absent
-FoundHere spool o L.Close g = g ≡ F.Absent
-FoundHere spool o L.Eof g = g ≡ F.Absent
+abbrev pub FoundHere : List ℕ → Opened → LineForm → Option Row → Type 0
+FoundHere spool o L.Ignored g = g ≡ None
+FoundHere spool o L.Close g = g ≡ None
+FoundHere spool o L.Eof g = g ≡ None
 FoundHere spool o (L.Opens x) g = FoundUnder spool o x.key g
 FoundHere spool o (L.Equals x) g = FoundUnder spool o x.key g
-FoundHere spool o (L.Refused r) g = g ≡ F.Absent
+FoundHere spool o (L.Refused r) g = g ≡ None
 
 -- what is open behind it
-abbrev pub opened_found : Opened → LineForm → Found → Opened
-opened_found o f F.Absent = o
-opened_found o f (F.Row row) =
+abbrev pub opened_found : Opened → LineForm → Option Row → Opened
+opened_found o f None = o
+opened_found o f (Some row) =
     cond o.text (noted_row o row.number (note_of (rest_here f))) (record { text = eqb row.number wire_text_row; first = 0; second = 0 })
 
-abbrev pub opened_behind : Opened → LineForm → Found → Opened
+abbrev pub opened_behind : Opened → LineForm → Option Row → Opened
 opened_behind o f g = cond (is_close f) no_text (opened_found o f g)
 
 -- ── what is written of one line ──
-abbrev pub PrintsText : List ℕ → Opened → List ℕ → List ℕ → Wrote → Type 0
+abbrev pub PrintsText : List ℕ → Opened → List ℕ → List ℕ → Result ℕ NoRoom → Type 0
 PrintsText spool o before after r =
     (k : Known) (s : Slots) → NotedRows spool k wire_text_table (notes_from table_layer_text) (text_notes o) s
     → Prints (line_bytes (show_slots k wire_text_table s no_inner (bytes "}" ∷ []))) before after r
 
 -- j: the row that is written
-pub record PrintsOwn (spool : List ℕ) (j : ℕ) (o : Opened) (row : Row) (rest : Rest) (before after : List ℕ) (r : Wrote) : Type 0 where
+pub record PrintsOwn (spool : List ℕ) (j : ℕ) (o : Opened) (row : Row) (rest : Rest) (before after : List ℕ) (r : Result ℕ NoRoom) : Type 0 where
   pub in-text : o.text ≡ true → Prints [] before after r
   pub other : o.text ≡ false → eqb row.number j ≡ false → Prints [] before after r
   pub mine : o.text ≡ false → eqb row.number j ≡ true → PrintsRow table_wire row (rest_in spool rest) before after r
 
-pub record PrintsShut (spool : List ℕ) (j : ℕ) (o : Opened) (before after : List ℕ) (r : Wrote) : Type 0 where
+pub record PrintsShut (spool : List ℕ) (j : ℕ) (o : Opened) (before after : List ℕ) (r : Result ℕ NoRoom) : Type 0 where
   pub wire : o.text ≡ false → Prints [] before after r
   pub other : o.text ≡ true → eqb j wire_text_row ≡ false → Prints [] before after r
   pub mine : o.text ≡ true → eqb j wire_text_row ≡ true → PrintsText spool o before after r
 
 -- The text of a line is written, and what the lines behind write (on) comes behind it; o: what is open there.
-pub record Printed (spool : List ℕ) (k : Known) (on : Amid → Text → Type 0) (o : Opened) (over : Bool) (t : Text) (before after : List ℕ) (r : Wrote) : Type 0 where
+pub record Printed (spool : List ℕ) (k : Known) (on : Amid → Text → Type 0) (o : Opened) (over : Bool) (t : Text) (before after : List ℕ) (r : Result ℕ NoRoom) : Type 0 where
   pub text : Text
   pub rest : Text
   pub is : t ≡ text ++ rest
@@ -120,14 +117,14 @@ pub record Printed (spool : List ℕ) (k : Known) (on : Amid → Text → Type 0
 abbrev pub is_over : Opened → LineForm → Bool
 is_over o f = cond (is_close f) (cond o.text false true) false
 
-abbrev pub PrintsLine : List ℕ → ℕ → Opened → LineForm → Found → List ℕ → List ℕ → Wrote → Type 0
+abbrev pub PrintsLine : List ℕ → ℕ → Opened → LineForm → Option Row → List ℕ → List ℕ → Result ℕ NoRoom → Type 0
 PrintsLine spool j o f g before after r =
     (k : Known) (fs : List Form) (a : Amid) (t : Text) → PlacedCode f → FoundHere spool o f g → Holds spool k a o
     → Pass k j (form_in spool f ∷ fs) a t
     → Printed spool k (Pass k j fs) (opened_behind o f g) (is_over o f) t before after r
 
 -- ── all lines of a row ──
-abbrev pub PrintsPass : List ℕ → List ℕ → ℕ → ℕ → ℕ → List ℕ → List ℕ → Wrote → Type 0
+abbrev pub PrintsPass : List ℕ → List ℕ → ℕ → ℕ → ℕ → List ℕ → List ℕ → Result ℕ NoRoom → Type 0
 PrintsPass spool body start from j before after r =
     (k : Known) (ls : List (List ℕ)) (t : Text) → LinesAt spool body start from ls → Pass k j (forms_of from ls) outside t → Prints (line_bytes t) before after r
 
@@ -142,7 +139,7 @@ pub record WireKeys (spool body : List ℕ) (start from : ℕ) (k : Known) (ns :
   pub noted : (j : ℕ) → wire_text_row < j → j < rows_wire → Noted spool k (rule_at wire_table j) (get_or ns (notes_from table_wire + j) 0) (value j)
   pub once : (j : ℕ) → wire_text_row < j → j < rows_wire → t j ≡ show_slot k (rule_at wire_table j) (value j) no_inner []
 
-abbrev pub PrintsLines : List ℕ → List ℕ → ℕ → ℕ → ℕ → List ℕ → List ℕ → List ℕ → Wrote → Type 0
+abbrev pub PrintsLines : List ℕ → List ℕ → ℕ → ℕ → ℕ → List ℕ → List ℕ → List ℕ → Result ℕ NoRoom → Type 0
 PrintsLines spool body start from j ns before after r =
     (k : Known) (t : ℕ → Text) → first_group_row ≤ j → j < rows_wire → WireKeys spool body start from k ns t → Prints (line_bytes (t j)) before after r
 
@@ -154,6 +151,6 @@ keys_text t (suc n) = keys_text t n ++ t (first_group_row + n)
 abbrev pub key_rows : ℕ
 key_rows = 8
 
-abbrev pub PrintsKeys : List ℕ → List ℕ → ℕ → ℕ → List ℕ → List ℕ → List ℕ → Wrote → Type 0
+abbrev pub PrintsKeys : List ℕ → List ℕ → ℕ → ℕ → List ℕ → List ℕ → List ℕ → Result ℕ NoRoom → Type 0
 PrintsKeys spool body start from ns before after r =
     (k : Known) (t : ℕ → Text) → WireKeys spool body start from k ns t → Prints (line_bytes (keys_text t key_rows)) before after r

@@ -1,6 +1,5 @@
 -- Rows whose lines are noted where they stand, and written when their block closes.
-use Rattle.std.specs.Prelude.{ℕ, zero, suc, ◌+◌, ◌*◌, ◌/◌, ◌%◌, ◌<◌, true, false, cond, ◌&&◌, ◌||◌, ◌≡◌, List, [], ◌∷◌, eqb, ltb, length, get_or, set, take, replicate}
-use Rattle.std.proofs.Math.Option.{Option, none, some}
+use Rattle.std.specs.Prelude.{ℕ, zero, suc, ◌+◌, ◌*◌, ◌/◌, ◌%◌, ◌<◌, true, false, cond, ◌&&◌, ◌||◌, ◌≡◌, List, [], ◌∷◌, eqb, ltb, length, get_or, set, take, replicate, Option, Some, None}
 use Rattle.rules.specs.Lines.{Rest, brace, equals, span, bytes_at}
 use Rattle.rules.specs.Values.{Value, Known, Kind}
 use Rattle.rules.specs.Rows.{Rule, Slots, Held, part_of}
@@ -71,13 +70,13 @@ key_notes p t j d inner n ns =
 -- k: what is known
 module _ (spool : List ℕ) (k : Known) where
   abbrev pub Noted : Rule → ℕ → Option Value → Type 0
-  Noted r n none = n ≡ 0
-  Noted r n (some v) = (0 < n) × Reads k r (rest_of spool r.holds n) v
+  Noted r n None = n ≡ 0
+  Noted r n (Some v) = (0 < n) × Reads k r (rest_of spool r.holds n) v
 
   -- the rows of a table, their notes from a place on
   pub record NotedRows (t : List Rule) (from : ℕ) (ns : List ℕ) (s : Slots) : Type 0 where
     pub long : length s ≡ length t
-    pub rows : (j : ℕ) → j < length t → Noted (rule_at t j) (get_or ns (from + j) 0) (get_or s j none)
+    pub rows : (j : ℕ) → j < length t → Noted (rule_at t j) (get_or ns (from + j) 0) (get_or s j None)
 
 -- ── a block's parts ──
 -- the tables of the parts that are noted together, by the first one's number: FILE_FORMAT's, DRAWING_FORMAT's rows before `layer_name`,

@@ -1,6 +1,5 @@
 -- A wire's lines gone over for one key of its table: what is written of them.
-use Rattle.std.specs.Prelude.{ℕ, ◌+◌, ◌≤◌, true, cond, ◌≡◌, List, [], ◌∷◌, eqb, leb, length, set}
-use Rattle.std.proofs.Math.Option.{some}
+use Rattle.std.specs.Prelude.{ℕ, ◌+◌, ◌≤◌, true, cond, ◌≡◌, List, [], ◌∷◌, eqb, leb, length, set, Some}
 use Rattle.rules.specs.Base.{bytes, all}
 use Rattle.rules.specs.Spool.{most_bytes, most_in_line}
 use Rattle.rules.specs.Lines.{Rest, Form, ignored, wrong, close, eof, keyed, form_of}
@@ -18,7 +17,7 @@ pub record LinesAt (s body : List ℕ) (start at : ℕ) (ls : List (List ℕ)) :
   pub part : PartOf s start body
   pub begun : start ≤ at
   pub here : at ≤ start + length body
-  pub lines : lines_in start at body ≡ some ls
+  pub lines : lines_in start at body ≡ Some ls
   pub narrow : all (λ l. leb (length l) most_in_line) ls ≡ true
 
 -- their forms
@@ -56,7 +55,7 @@ module _ (k : Known) (j : ℕ) (on : Amid → Text → Type 0) where
     pub value : Value
     pub found-so : find key wire_text_table ≡ found row rule
     pub reads : Reads k rule c value
-    pub goes : on (inside (set o row (some value))) t
+    pub goes : on (inside (set o row (Some value))) t
 
   -- the `}` of that
   pub record TextShut (o : Slots) (t : Text) : Type 0 where

@@ -1,7 +1,6 @@
 -- What is written of the volume at hand, in any state of the reading. A block whose rows are noted has its first line alone, and the lines
 -- inside it that are written at once; its rows come when it closes.
-use Rattle.std.specs.Prelude.{ℕ, zero, suc, Bool, true, false, cond, List, [], ◌∷◌, ◌++◌, get_or}
-use Rattle.std.proofs.Math.Option.{none}
+use Rattle.std.specs.Prelude.{ℕ, zero, suc, Bool, true, false, cond, List, [], ◌∷◌, ◌++◌, get_or, None}
 use Rattle.rules.specs.Base.{bytes, is_some}
 use Rattle.rules.specs.Values.{Known}
 use Rattle.rules.specs.Rows.{Rule, Held}
@@ -45,7 +44,7 @@ module _ (K : Known) where
   drawing_begun s = file_text true s.now.file ++ open_line (bytes "DRAWING_FORMAT") ∷ []
 
   abbrev pub names_text : Drawing → Text
-  names_text d = cond (is_some (get_or d.own 7 none)) (block (bytes "layer_name") (show_layers K d.layers) []) []
+  names_text d = cond (is_some (get_or d.own 7 None)) (block (bytes "layer_name") (show_layers K d.layers) []) []
 
   -- SYMBOL_DEFINE as far as it is
   abbrev pub defines_begun : Set → Bool → Text
@@ -56,10 +55,10 @@ module _ (K : Known) where
   symbol_begun s = defines_begun s false ++ open_line (bytes "E_symbol") ∷ []
 
   abbrev pub shown_part : Symbol → Text
-  shown_part y = cond (is_some (get_or y.own 1 none)) (block (bytes "element") (show_figures K false figure_table y.figures) []) []
+  shown_part y = cond (is_some (get_or y.own 1 None)) (block (bytes "element") (show_figures K false figure_table y.figures) []) []
 
   abbrev pub hidden_part : Symbol → Text
-  hidden_part y = cond (is_some (get_or y.own 2 none)) (block (bytes "hide") (show_points K false y.hidden) []) []
+  hidden_part y = cond (is_some (get_or y.own 2 None)) (block (bytes "hide") (show_points K false y.hidden) []) []
 
   abbrev pub parts_text : Symbol → Text
   parts_text y = cond y.hide_first (hidden_part y ++ shown_part y) (shown_part y ++ hidden_part y)

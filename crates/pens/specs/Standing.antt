@@ -1,6 +1,5 @@
 -- How the pen, the notes and the output between two lines stand to the state that the definitions are in.
-use Rattle.std.specs.Prelude.{ℕ, zero, suc, ◌+◌, ◌≤◌, ◌<◌, Bool, true, false, cond, ◌≡◌, List, [], ◌∷◌, length, get_or, take}
-use Rattle.std.proofs.Math.Option.{none}
+use Rattle.std.specs.Prelude.{ℕ, zero, suc, ◌+◌, ◌≤◌, ◌<◌, Bool, true, false, cond, ◌≡◌, List, [], ◌∷◌, length, get_or, take, None}
 use Rattle.rules.specs.Base.{bytes, is_none, is_some}
 use Rattle.rules.specs.Lines.{Form}
 use Rattle.rules.specs.Values.{Known, served_symbols, served_wires}
@@ -61,27 +60,27 @@ module _ (K : Known) (spool : List ℕ) (first : Bool) (p : Pen) (ns : List ℕ)
     pub start : p.start ≡ length (line_bytes (drawing_begun K s))
     pub slots : length d.own ≡ 8
     pub noted : NotedRows spool K (take 7 drawing_table) 0 ns (take 7 d.own)
-    pub unnamed : is_none (get_or d.own 7 none) ≡ true → d.layers ≡ []
+    pub unnamed : is_none (get_or d.own 7 None) ≡ true → d.layers ≡ []
 
   -- a symbol: its name and `wall` are noted
   pub record InSymbol (s : Set) (y : Symbol) : Type 0 where
     pub front : Front first s
     pub start : p.start ≡ length (line_bytes (symbol_begun K s))
     pub slots : length y.own ≡ 4
-    pub name : Noted spool K (rule_at symbol_table 0) (get_or ns 0 0) (get_or y.own 0 none)
-    pub wall : Noted spool K (rule_at symbol_table 3) (get_or ns 3 0) (get_or y.own 3 none)
-    pub order : is_none (get_or y.own 1 none) ≡ true → is_some (get_or y.own 2 none) ≡ true → y.hide_first ≡ true
+    pub name : Noted spool K (rule_at symbol_table 0) (get_or ns 0 0) (get_or y.own 0 None)
+    pub wall : Noted spool K (rule_at symbol_table 3) (get_or ns 3 0) (get_or y.own 3 None)
+    pub order : is_none (get_or y.own 1 None) ≡ true → is_some (get_or y.own 2 None) ≡ true → y.hide_first ≡ true
 
   pub record InElement (s : Set) (y : Symbol) : Type 0 where
     pub in-symbol : InSymbol s y
     pub layered : p.layered ≡ false
-    pub read : is_some (get_or y.own 1 none) ≡ true
-    pub order : is_some (get_or y.own 2 none) ≡ true → y.hide_first ≡ true
+    pub read : is_some (get_or y.own 1 None) ≡ true
+    pub order : is_some (get_or y.own 2 None) ≡ true → y.hide_first ≡ true
 
   pub record InHide (s : Set) (y : Symbol) : Type 0 where
     pub in-symbol : InSymbol s y
-    pub read : is_some (get_or y.own 2 none) ≡ true
-    pub order : y.hide_first ≡ is_none (get_or y.own 1 none)
+    pub read : is_some (get_or y.own 2 None) ≡ true
+    pub order : y.hide_first ≡ is_none (get_or y.own 1 None)
 
   abbrev pub InHome : Set → Home → Type 0
   InHome s (in_element y) = InElement s y
@@ -99,8 +98,8 @@ module _ (K : Known) (spool : List ℕ) (first : Bool) (p : Pen) (ns : List ℕ)
     pub part : p.part ≡ i
     pub open-part : i < 2
     pub slots : length w.own ≡ rows_wire
-    pub others : (j : ℕ) → j ≤ wire_text_row → get_or w.own j none ≡ none
-    pub noted : (j : ℕ) → wire_text_row < j → j < rows_wire → Noted spool (known_of s) (rule_at wire_table j) (get_or ns (notes_from table_wire + j) 0) (get_or w.own j none)
+    pub others : (j : ℕ) → j ≤ wire_text_row → get_or w.own j None ≡ None
+    pub noted : (j : ℕ) → wire_text_row < j → j < rows_wire → Noted spool (known_of s) (rule_at wire_table j) (get_or ns (notes_from table_wire + j) 0) (get_or w.own j None)
     pub groups : length w.groups ≡ 3
     pub no-group : (j : ℕ) → first_group_row ≤ j → j ≤ num_row → get_or ns (notes_from table_wire + j) 0 ≡ 0 → group_at w j ≡ []
     pub no_text : get_or ns (notes_from table_wire + wire_text_row) 0 ≡ 0 → (i ≡ 0) × (w.texts ≡ [])
@@ -109,7 +108,7 @@ module _ (K : Known) (spool : List ℕ) (first : Bool) (p : Pen) (ns : List ℕ)
   Here (top s k) = (p.block ≡ block_top) × TopHere s k
   Here (file s n h i) = (p.block ≡ block_file) × InFile s h i
   Here (drawing s d) = (p.block ≡ block_drawing) × InDrawing s d
-  Here (layer_names s d) = (p.block ≡ block_layer_names) × InDrawing s d × (is_some (get_or d.own 7 none) ≡ true)
+  Here (layer_names s d) = (p.block ≡ block_layer_names) × InDrawing s d × (is_some (get_or d.own 7 None) ≡ true)
   Here (defines s b) = (p.block ≡ block_defines) × Front first s × (b ≡ true → s.symbols ≡ [])
   Here (symbol s y) = (p.block ≡ block_symbol) × InSymbol s y
   Here (hide s y ps) = (p.block ≡ block_hide) × InHide s y

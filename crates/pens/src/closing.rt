@@ -7,41 +7,48 @@ ghost use Rattle.pens.specs.Writing.{noted_base};
 ghost use Rattle.pens.specs.KeyWriting.{Kept};
 ghost use Rattle.account.specs.Numbering.{most_rows};
 
+use crate::Pen;
 use crate::groups::put_keys;
 use crate::keys::file_table;
 use crate::noted::{put_noted, put_rows};
 use crate::places::{at_block, by_home};
 use crate::swap::exchange;
-use crate::{Drawn, Pen};
 use account::{
     BLOCK_CHAIN, BLOCK_DEFINES, BLOCK_DRAWING, BLOCK_ELEMENTS, BLOCK_FIGURES, BLOCK_FILE,
     BLOCK_HIDE, BLOCK_LAYER_NAMES, BLOCK_PLACED, BLOCK_SYMBOL, BLOCK_TEXT, BLOCK_TOP, BLOCK_WIRE,
 };
-use leaves::Wrote;
+use leaves::NoRoom;
 use prints::rows::put_plain;
 use tables::{TABLE_DRAWING, TABLE_LAYER_TEXT, TABLE_PLACED, TABLE_SYMBOL, TABLE_SYMBOL_TEXT};
 
 // The `}`, with which another block is open.
-fn shut(pen: Pen, block: u8, out: &mut [u8]) -> Drawn
+fn shut(pen: Pen, block: u8, out: &mut [u8]) -> Result<Pen, NoRoom>
     requires { Safe pen out.old }
     ensures { Kept out.old out.new result × Shuts pen block out.old out.new result }
 {
     let from = pen.at;
     match put_plain(b"}", &mut out[from..]) {
-        Wrote::Bytes(n) => Drawn::Go(at_block(pen, n, block, 0)),
-        Wrote::Full => Drawn::Full,
+        Ok(n) => Ok(at_block(pen, n, block, 0)),
+        Err(NoRoom) => Err(NoRoom),
     }
 }
 
 // The noted rows of a block, and its `}`.
-fn close_rows(base: u8, s: &[u8], pen: Pen, block: u8, notes: &[u32], out: &mut [u8]) -> Drawn
+fn close_rows(
+    base: u8,
+    s: &[u8],
+    pen: Pen,
+    block: u8,
+    notes: &[u32],
+    out: &mut [u8],
+) -> Result<Pen, NoRoom>
     requires { Safe pen out.old × (noted_base base ≡ true) }
     ensures { Kept out.old out.new result × ShutsRows s.now base pen block notes.now out.old out.new result }
 {
     let from = pen.at;
     match put_rows(3, base, base, 0, s, notes, &mut out[from..]) {
-        Wrote::Bytes(n) => shut(at_block(pen, n, block, 0), block, out),
-        Wrote::Full => Drawn::Full,
+        Ok(n) => shut(at_block(pen, n, block, 0), block, out),
+        Err(NoRoom) => Err(NoRoom),
     }
 }
 
@@ -57,7 +64,7 @@ fn around(part: u8) -> u8
 }
 
 // DRAWING_FORMAT's rows come before `layer_name`, which is written already.
-fn close_drawing(s: &[u8], pen: Pen, notes: &[u32], out: &mut [u8]) -> Drawn
+fn close_drawing(s: &[u8], pen: Pen, notes: &[u32], out: &mut [u8]) -> Result<Pen, NoRoom>
     requires { Safe pen out.old }
     ensures { Kept out.old out.new result × ShutsDrawing s.now pen notes.now out.old out.new result }
 {
@@ -72,8 +79,8 @@ fn close_drawing(s: &[u8], pen: Pen, notes: &[u32], out: &mut [u8]) -> Drawn
         notes,
         &mut out[middle..],
     ) {
-        Wrote::Full => Drawn::Full,
-        Wrote::Bytes(n) => {
+        Err(NoRoom) => Err(NoRoom),
+        Ok(n) => {
             let to = middle + n;
             exchange(&mut out[from..to], middle - from);
             shut(at_block(pen, n, BLOCK_DRAWING, 0), BLOCK_TOP, out)
@@ -82,21 +89,21 @@ fn close_drawing(s: &[u8], pen: Pen, notes: &[u32], out: &mut [u8]) -> Drawn
 }
 
 // A symbol's name comes before its `element` and `hide`, which are written already, and `wall` behind them.
-fn close_symbol(s: &[u8], pen: Pen, notes: &[u32], out: &mut [u8]) -> Drawn
+fn close_symbol(s: &[u8], pen: Pen, notes: &[u32], out: &mut [u8]) -> Result<Pen, NoRoom>
     requires { Safe pen out.old × (length notes.now ≡ most_rows) }
     ensures { Kept out.old out.new result × ShutsSymbol s.now pen notes.now out.old out.new result }
 {
     let from = pen.start;
     let middle = pen.at;
     let named = put_noted(TABLE_SYMBOL, 0, s, notes[0], &mut out[middle..]);
-    let Wrote::Bytes(n) = named else {
-        return Drawn::Full;
+    let Ok(n) = named else {
+        return Err(NoRoom);
     };
     let to = middle + n;
     exchange(&mut out[from..to], middle - from);
     let walled = put_noted(TABLE_SYMBOL, 3, s, notes[3], &mut out[to..]);
-    let Wrote::Bytes(m) = walled else {
-        return Drawn::Full;
+    let Ok(m) = walled else {
+        return Err(NoRoom);
     };
     shut(at_block(pen, n + m, BLOCK_SYMBOL, 0), BLOCK_DEFINES, out)
 }
@@ -110,14 +117,14 @@ fn close_wire(
     pen: Pen,
     notes: &[u32],
     out: &mut [u8],
-) -> Drawn
+) -> Result<Pen, NoRoom>
     requires { Safe pen out.old }
     ensures { Kept out.old out.new result × ShutsWire s.now body.now start from pen notes.now out.old out.new result }
 {
     let place = pen.at;
     match put_keys(s, body, start, from, notes, &mut out[place..]) {
-        Wrote::Bytes(n) => shut(at_block(pen, n, BLOCK_WIRE, 0), BLOCK_FIGURES, out),
-        Wrote::Full => Drawn::Full,
+        Ok(n) => shut(at_block(pen, n, BLOCK_WIRE, 0), BLOCK_FIGURES, out),
+        Err(NoRoom) => Err(NoRoom),
     }
 }
 
@@ -180,12 +187,12 @@ pub fn on_close(
     pen: Pen,
     notes: &[u32],
     out: &mut [u8],
-) -> Drawn
+) -> Result<Pen, NoRoom>
     requires { Safe pen out.old × (length notes.now ≡ most_rows) }
     ensures { Kept out.old out.new result × CloseDone s.now first pen notes.now out.old out.new result × WireDone s.now body.now start from pen notes.now out.old out.new result }
 {
     if in_part(pen) {
-        return Drawn::Go(part_closed(pen));
+        return Ok(part_closed(pen));
     }
     if pen.block == BLOCK_TEXT {
         return close_rows(

@@ -10,13 +10,12 @@ use crate::noted::{note_at, note_of, notes_from, put_noted, put_part};
 use account::ROWS_WIRE;
 use entries::Rest;
 use entries::names::part;
-use leaves::Wrote;
-use lines::Look;
+use leaves::NoRoom;
 use lines::forms::look;
 use prints::rows::put_row;
 use rules::{LineForm, Span};
 use tables::lookup::row_of;
-use tables::{Found, Row, TABLE_LAYER_TEXT, TABLE_WIRE};
+use tables::{Row, TABLE_LAYER_TEXT, TABLE_WIRE};
 
 // Rows of the wire's table: the first that is no element, and the last that repeats, its text.
 pub(crate) const ROW_DIREC: u8 = 2;
@@ -42,7 +41,7 @@ fn no_text() -> Opened
 }
 
 // ── a line ──
-fn row_under(s: &[u8], amid: Opened, key: Span) -> Found
+fn row_under(s: &[u8], amid: Opened, key: Span) -> Option<Row>
     ensures { FoundUnder s.now amid key result }
 {
     if amid.text {
@@ -52,7 +51,7 @@ fn row_under(s: &[u8], amid: Opened, key: Span) -> Found
 }
 
 // The row of a line that has a key.
-fn row_here(s: &[u8], amid: Opened, form: LineForm) -> Found
+fn row_here(s: &[u8], amid: Opened, form: LineForm) -> Option<Row>
     ensures { FoundHere s.now amid form result }
 {
     match form {
@@ -64,10 +63,10 @@ fn row_here(s: &[u8], amid: Opened, form: LineForm) -> Found
             let key = q.key;
             row_under(s, amid, key)
         }
-        LineForm::Ignored => Found::Absent,
-        LineForm::Close => Found::Absent,
-        LineForm::Eof => Found::Absent,
-        LineForm::Refused(_) => Found::Absent,
+        LineForm::Ignored => None,
+        LineForm::Close => None,
+        LineForm::Eof => None,
+        LineForm::Refused(_) => None,
     }
 }
 
@@ -130,13 +129,13 @@ fn noted_row(amid: Opened, number: u8, note: u32) -> Opened
 }
 
 // What is open behind a line.
-fn opened_behind(amid: Opened, form: LineForm, found: Found) -> Opened
+fn opened_behind(amid: Opened, form: LineForm, found: Option<Row>) -> Opened
     ensures { result ≡ opened_behind amid form found }
 {
     if is_close(form) {
         return no_text();
     }
-    let Found::Row(row) = found else {
+    let Some(row) = found else {
         return amid;
     };
     if amid.text {
@@ -151,7 +150,7 @@ fn opened_behind(amid: Opened, form: LineForm, found: Found) -> Opened
 
 // ── what a pass for the row of number j writes ──
 // The rows of the text that is open, and its `}`.
-fn put_text(s: &[u8], amid: Opened, out: &mut [u8]) -> Wrote
+fn put_text(s: &[u8], amid: Opened, out: &mut [u8]) -> Result<usize, NoRoom>
     ensures { Within out.old out.new result × PrintsText s.now amid out.old out.new result }
 {
     let notes = [0, 0, 0, 0, amid.first, amid.second];
@@ -159,45 +158,66 @@ fn put_text(s: &[u8], amid: Opened, out: &mut [u8]) -> Wrote
 }
 
 // Of a line with a key.
-fn put_own(s: &[u8], j: u8, amid: Opened, row: Row, rest: Rest, out: &mut [u8]) -> Wrote
+fn put_own(
+    s: &[u8],
+    j: u8,
+    amid: Opened,
+    row: Row,
+    rest: Rest,
+    out: &mut [u8],
+) -> Result<usize, NoRoom>
     ensures { Within out.old out.new result × PrintsOwn s.now j amid row rest out.old out.new result }
 {
     if amid.text {
-        return Wrote::Bytes(0);
+        return Ok(0);
     }
     if row.number != j {
-        return Wrote::Bytes(0);
+        return Ok(0);
     }
     put_row(TABLE_WIRE, row, s, rest, out)
 }
 
 // Of a `}`.
-fn put_shut(s: &[u8], j: u8, amid: Opened, out: &mut [u8]) -> Wrote
+fn put_shut(s: &[u8], j: u8, amid: Opened, out: &mut [u8]) -> Result<usize, NoRoom>
     ensures { Within out.old out.new result × PrintsShut s.now j amid out.old out.new result }
 {
     if !amid.text {
-        return Wrote::Bytes(0);
+        return Ok(0);
     }
     if j != ROW_TEXT {
-        return Wrote::Bytes(0);
+        return Ok(0);
     }
     put_text(s, amid, out)
 }
 
-fn put_line(s: &[u8], j: u8, amid: Opened, form: LineForm, found: Found, out: &mut [u8]) -> Wrote
+fn put_line(
+    s: &[u8],
+    j: u8,
+    amid: Opened,
+    form: LineForm,
+    found: Option<Row>,
+    out: &mut [u8],
+) -> Result<usize, NoRoom>
     ensures { Within out.old out.new result × PrintsLine s.now j amid form found out.old out.new result }
 {
     if is_close(form) {
         return put_shut(s, j, amid, out);
     }
-    let Found::Row(row) = found else {
-        return Wrote::Bytes(0);
+    let Some(row) = found else {
+        return Ok(0);
     };
     put_own(s, j, amid, row, rest_here(form), out)
 }
 
 // All lines of that row, of the wire whose first line behind the opener stands at the place `from`.
-fn put_pass(s: &[u8], body: &[u8], start: u32, from: u32, j: u8, out: &mut [u8]) -> Wrote
+fn put_pass(
+    s: &[u8],
+    body: &[u8],
+    start: u32,
+    from: u32,
+    j: u8,
+    out: &mut [u8],
+) -> Result<usize, NoRoom>
     ensures { Within out.old out.new result × PrintsPass s.now body.now start from j out.old out.new result }
 {
     let mut amid = no_text();
@@ -206,14 +226,14 @@ fn put_pass(s: &[u8], body: &[u8], start: u32, from: u32, j: u8, out: &mut [u8])
     let mut going = true;
     while going {
         match look(body, start, at, 1, 1) {
-            Look::End => {
+            None => {
                 going = false;
             }
-            Look::Line(seen) => {
+            Some(seen) => {
                 let form = seen.form;
                 let found = row_here(s, amid, form);
-                let Wrote::Bytes(m) = put_line(s, j, amid, form, found, &mut out[n..]) else {
-                    return Wrote::Full;
+                let Ok(m) = put_line(s, j, amid, form, found, &mut out[n..]) else {
+                    return Err(NoRoom);
                 };
                 n += m;
                 going = !is_over(amid, form);
@@ -222,7 +242,7 @@ fn put_pass(s: &[u8], body: &[u8], start: u32, from: u32, j: u8, out: &mut [u8])
             }
         }
     }
-    Wrote::Bytes(n)
+    Ok(n)
 }
 
 // ── keys ──
@@ -235,12 +255,12 @@ fn put_lines(
     j: u8,
     notes: &[u32],
     out: &mut [u8],
-) -> Wrote
+) -> Result<usize, NoRoom>
     ensures { Within out.old out.new result × PrintsLines s.now body.now start from j notes.now out.old out.new result }
 {
     let note = note_at(notes, notes_from(TABLE_WIRE) + j as usize);
     if note == 0 {
-        return Wrote::Bytes(0);
+        return Ok(0);
     }
     if j <= ROW_TEXT {
         return put_pass(s, body, start, from, j, out);
@@ -256,17 +276,17 @@ pub(crate) fn put_keys(
     from: u32,
     notes: &[u32],
     out: &mut [u8],
-) -> Wrote
+) -> Result<usize, NoRoom>
     ensures { Within out.old out.new result × PrintsKeys s.now body.now start from notes.now out.old out.new result }
 {
     let mut n = 0;
     let mut j = ROW_DIREC;
     while (j as usize) < ROWS_WIRE {
-        let Wrote::Bytes(m) = put_lines(s, body, start, from, j, notes, &mut out[n..]) else {
-            return Wrote::Full;
+        let Ok(m) = put_lines(s, body, start, from, j, notes, &mut out[n..]) else {
+            return Err(NoRoom);
         };
         n += m;
         j += 1;
     }
-    Wrote::Bytes(n)
+    Ok(n)
 }

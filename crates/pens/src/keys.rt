@@ -10,10 +10,10 @@ ghost use Rattle.pens.specs.KeyWriting.{Kept, DrawsRow, RowDone, KeyOrName, plai
 ghost use Rattle.tables.specs.Numbering.{table_layer_text, table_placed, table_placed_text, table_wire};
 ghost use Rattle.account.specs.Numbering.{block_top, block_file, block_drawing, block_defines, block_symbol, block_figures, block_placed, block_wire, most_rows};
 
+use crate::Pen;
 use crate::groups::ROW_DIREC;
 use crate::noted::{note_of, notes_from, opens};
 use crate::places::{among_figures, at_block, begun, by_home, forget};
-use crate::{Drawn, Pen};
 use account::{
     BLOCK_CHAIN, BLOCK_DEFINES, BLOCK_DRAWING, BLOCK_ELEMENTS, BLOCK_FIGURES, BLOCK_FILE,
     BLOCK_HIDE, BLOCK_LAYER_NAMES, BLOCK_PLACED, BLOCK_SYMBOL, BLOCK_TEXT, BLOCK_TOP, BLOCK_WIRE,
@@ -21,12 +21,12 @@ use account::{
 };
 use entries::Rest;
 use entries::names::part;
-use leaves::Wrote;
+use leaves::NoRoom;
 use prints::rows::{put_named, put_row};
 use rules::Span;
 use tables::lookup::row_of;
 use tables::{
-    Found, HOLDS_BLOCK, Row, TABLE_BASE, TABLE_DEFINES, TABLE_DRAWING, TABLE_ELEC, TABLE_ELEMENT,
+    HOLDS_BLOCK, Row, TABLE_BASE, TABLE_DEFINES, TABLE_DRAWING, TABLE_ELEC, TABLE_ELEMENT,
     TABLE_FIGURES, TABLE_FILE, TABLE_LATER, TABLE_LAYER_POINTS, TABLE_LAYER_TEXT, TABLE_PLACED,
     TABLE_PLACED_TEXT, TABLE_RANGE, TABLE_SINGLE_WIRED_LAYER, TABLE_SYM, TABLE_SYMBOL,
     TABLE_SYMBOL_POINTS, TABLE_SYMBOL_TEXT, TABLE_TOP, TABLE_WIRE, TABLE_WIRED_LAYER,
@@ -144,14 +144,14 @@ fn put_at_once(
     pen: Pen,
     block: u8,
     out: &mut [u8],
-) -> Drawn
+) -> Result<Pen, NoRoom>
     requires { Safe pen out.old }
     ensures { Kept out.old out.new result × DrawsRow table row s.now rest pen (λ n. moved pen n block 0) out.old out.new result }
 {
     let from = pen.at;
     match put_row(table, row, s, rest, &mut out[from..]) {
-        Wrote::Bytes(n) => Drawn::Go(at_block(pen, n, block, 0)),
-        Wrote::Full => Drawn::Full,
+        Ok(n) => Ok(at_block(pen, n, block, 0)),
+        Err(NoRoom) => Err(NoRoom),
     }
 }
 
@@ -164,14 +164,14 @@ fn put_begun(
     pen: Pen,
     block: u8,
     out: &mut [u8],
-) -> Drawn
+) -> Result<Pen, NoRoom>
     requires { Safe pen out.old }
     ensures { Kept out.old out.new result × DrawsRow table row s.now rest pen (λ n. begun pen n block) out.old out.new result }
 {
     let from = pen.at;
     match put_row(table, row, s, rest, &mut out[from..]) {
-        Wrote::Bytes(n) => Drawn::Go(begun(pen, n, block)),
-        Wrote::Full => Drawn::Full,
+        Ok(n) => Ok(begun(pen, n, block)),
+        Err(NoRoom) => Err(NoRoom),
     }
 }
 
@@ -184,14 +184,14 @@ fn put_figures(
     pen: Pen,
     layered: bool,
     out: &mut [u8],
-) -> Drawn
+) -> Result<Pen, NoRoom>
     requires { Safe pen out.old }
     ensures { Kept out.old out.new result × DrawsRow table row s.now rest pen (λ n. among_figures pen n layered) out.old out.new result }
 {
     let from = pen.at;
     match put_row(table, row, s, rest, &mut out[from..]) {
-        Wrote::Bytes(n) => Drawn::Go(among_figures(pen, n, layered)),
-        Wrote::Full => Drawn::Full,
+        Ok(n) => Ok(among_figures(pen, n, layered)),
+        Err(NoRoom) => Err(NoRoom),
     }
 }
 
@@ -205,7 +205,14 @@ fn note(table: u8, row: Row, rest: Rest, notes: &mut [u32])
     }
 }
 
-fn key_top(row: Row, s: &[u8], rest: Rest, pen: Pen, notes: &mut [u32], out: &mut [u8]) -> Drawn
+fn key_top(
+    row: Row,
+    s: &[u8],
+    rest: Rest,
+    pen: Pen,
+    notes: &mut [u32],
+    out: &mut [u8],
+) -> Result<Pen, NoRoom>
     requires { Safe pen out.old × (pen.block ≡ block_top) }
     ensures { Kept out.old out.new result × (length notes.new ≡ length notes.old) × RowDone 0 row s.now rest pen notes.old notes.new out.old out.new result }
 {
@@ -230,21 +237,28 @@ fn key_file(
     pen: Pen,
     notes: &mut [u32],
     out: &[u8],
-) -> Drawn
+) -> Result<Pen, NoRoom>
     requires { Safe pen out.now × (pen.block ≡ block_file) }
     ensures { Kept out.now out.now result × (length notes.new ≡ length notes.old) × RowDone table row s.now rest pen notes.old notes.new out.now out.now result }
 {
     note(table, row, rest, notes);
     if opens(s, row, rest) {
-        return Drawn::Go(at_block(pen, 0, BLOCK_FILE, row.inner));
+        return Ok(at_block(pen, 0, BLOCK_FILE, row.inner));
     }
-    Drawn::Go(pen)
+    Ok(pen)
 }
 
 // The row of DRAWING_FORMAT that opens a block.
 const ROW_LAYER_NAME: u8 = 7;
 
-fn key_drawing(row: Row, s: &[u8], rest: Rest, pen: Pen, notes: &mut [u32], out: &mut [u8]) -> Drawn
+fn key_drawing(
+    row: Row,
+    s: &[u8],
+    rest: Rest,
+    pen: Pen,
+    notes: &mut [u32],
+    out: &mut [u8],
+) -> Result<Pen, NoRoom>
     requires { Safe pen out.old × (pen.block ≡ block_drawing) }
     ensures { Kept out.old out.new result × (length notes.new ≡ length notes.old) × RowDone 7 row s.now rest pen notes.old notes.new out.old out.new result }
 {
@@ -252,21 +266,28 @@ fn key_drawing(row: Row, s: &[u8], rest: Rest, pen: Pen, notes: &mut [u32], out:
         return put_at_once(7, row, s, rest, pen, BLOCK_LAYER_NAMES, out);
     }
     note(7, row, rest, notes);
-    Drawn::Go(pen)
+    Ok(pen)
 }
 
-fn key_names(key: Span, s: &[u8], rest: Rest, pen: Pen, out: &mut [u8]) -> Drawn
+fn key_names(key: Span, s: &[u8], rest: Rest, pen: Pen, out: &mut [u8]) -> Result<Pen, NoRoom>
     requires { Safe pen out.old }
     ensures { Kept out.old out.new result × NamedLine s.now key rest pen out.old out.new result }
 {
     let from = pen.at;
     match put_named(s, key, rest, &mut out[from..]) {
-        Wrote::Bytes(n) => Drawn::Go(at_block(pen, n, BLOCK_LAYER_NAMES, 0)),
-        Wrote::Full => Drawn::Full,
+        Ok(n) => Ok(at_block(pen, n, BLOCK_LAYER_NAMES, 0)),
+        Err(NoRoom) => Err(NoRoom),
     }
 }
 
-fn key_defines(row: Row, s: &[u8], rest: Rest, pen: Pen, notes: &mut [u32], out: &mut [u8]) -> Drawn
+fn key_defines(
+    row: Row,
+    s: &[u8],
+    rest: Rest,
+    pen: Pen,
+    notes: &mut [u32],
+    out: &mut [u8],
+) -> Result<Pen, NoRoom>
     requires { Safe pen out.old × (pen.block ≡ block_defines) }
     ensures { Kept out.old out.new result × (length notes.new ≡ length notes.old) × RowDone 8 row s.now rest pen notes.old notes.new out.old out.new result }
 {
@@ -277,7 +298,14 @@ fn key_defines(row: Row, s: &[u8], rest: Rest, pen: Pen, notes: &mut [u32], out:
     put_begun(8, row, s, rest, pen, BLOCK_SYMBOL, out)
 }
 
-fn key_symbol(row: Row, s: &[u8], rest: Rest, pen: Pen, notes: &mut [u32], out: &mut [u8]) -> Drawn
+fn key_symbol(
+    row: Row,
+    s: &[u8],
+    rest: Rest,
+    pen: Pen,
+    notes: &mut [u32],
+    out: &mut [u8],
+) -> Result<Pen, NoRoom>
     requires { Safe pen out.old × (pen.block ≡ block_symbol) }
     ensures { Kept out.old out.new result × (length notes.new ≡ length notes.old) × RowDone 9 row s.now rest pen notes.old notes.new out.old out.new result }
 {
@@ -288,7 +316,7 @@ fn key_symbol(row: Row, s: &[u8], rest: Rest, pen: Pen, notes: &mut [u32], out: 
         return put_at_once(9, row, s, rest, pen, BLOCK_HIDE, out);
     }
     note(9, row, rest, notes);
-    Drawn::Go(pen)
+    Ok(pen)
 }
 
 // The block that a figure opens, or that of the figures where it is a line.
@@ -338,7 +366,7 @@ fn key_figures(
     pen: Pen,
     notes: &mut [u32],
     out: &mut [u8],
-) -> Drawn
+) -> Result<Pen, NoRoom>
     requires { Safe pen out.old × (pen.block ≡ block_figures) × (length notes.old ≡ most_rows) }
     ensures { Kept out.old out.new result × (length notes.new ≡ length notes.old) × RowDone table row s.now rest pen notes.old notes.new out.old out.new result }
 {
@@ -355,15 +383,15 @@ fn key_placed(
     pen: Pen,
     notes: &mut [u32],
     out: &[u8],
-) -> Drawn
+) -> Result<Pen, NoRoom>
     requires { Safe pen out.now × (pen.block ≡ block_placed) }
     ensures { Kept out.now out.now result × (length notes.new ≡ length notes.old) × RowDone table row s.now rest pen notes.old notes.new out.now out.now result }
 {
     note(table, row, rest, notes);
     if row.kind == HOLDS_BLOCK {
-        return Drawn::Go(at_block(pen, 0, BLOCK_PLACED, 1));
+        return Ok(at_block(pen, 0, BLOCK_PLACED, 1));
     }
-    Drawn::Go(pen)
+    Ok(pen)
 }
 
 // An element is written at once.
@@ -385,7 +413,7 @@ fn key_wire(
     pen: Pen,
     notes: &mut [u32],
     out: &mut [u8],
-) -> Drawn
+) -> Result<Pen, NoRoom>
     requires { Safe pen out.old × (pen.block ≡ block_wire) }
     ensures { Kept out.old out.new result × (length notes.new ≡ length notes.old) × RowDone table row s.now rest pen notes.old notes.new out.old out.new result }
 {
@@ -394,9 +422,9 @@ fn key_wire(
     }
     note(table, row, rest, notes);
     if row.kind == HOLDS_BLOCK {
-        return Drawn::Go(at_block(pen, 0, BLOCK_WIRE, 1));
+        return Ok(at_block(pen, 0, BLOCK_WIRE, 1));
     }
-    Drawn::Go(pen)
+    Ok(pen)
 }
 
 // A line with a key whose row was found, in any block but `layer_name`.
@@ -408,7 +436,7 @@ fn row_line(
     pen: Pen,
     notes: &mut [u32],
     out: &mut [u8],
-) -> Drawn
+) -> Result<Pen, NoRoom>
     requires { Safe pen out.old × (length notes.old ≡ most_rows) × (table ≡ plain_table_of pen table) }
     ensures { Kept out.old out.new result × (length notes.new ≡ length notes.old) × RowDone table row s.now rest pen notes.old notes.new out.old out.new result }
 {
@@ -423,7 +451,7 @@ fn row_line(
     }
     if pen.block == BLOCK_TEXT {
         note(table, row, rest, notes);
-        return Drawn::Go(pen);
+        return Ok(pen);
     }
     if pen.block == BLOCK_PLACED {
         return key_placed(table, row, s, rest, pen, notes, out);
@@ -457,7 +485,7 @@ pub fn on_key(
     pen: Pen,
     notes: &mut [u32],
     out: &mut [u8],
-) -> Drawn
+) -> Result<Pen, NoRoom>
     requires { Safe pen out.old × (length notes.old ≡ most_rows) }
     ensures { Kept out.old out.new result × (length notes.new ≡ most_rows) × KeyOrName s.now first key rest pen notes.old notes.new out.old out.new result }
 {
@@ -466,7 +494,7 @@ pub fn on_key(
     }
     let table = table_of(first, pen, rest);
     match row_of(table, part(s, key)) {
-        Found::Absent => Drawn::Go(pen),
-        Found::Row(row) => row_line(table, row, s, rest, pen, notes, out),
+        None => Ok(pen),
+        Some(row) => row_line(table, row, s, rest, pen, notes, out),
     }
 }

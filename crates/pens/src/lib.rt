@@ -23,10 +23,3 @@ pub struct Pen {
     // how many bytes are written
     pub at: usize,
 }
-
-// A line was written, or there is no room for it.
-#[derive(Clone, Copy)]
-pub enum Drawn {
-    Go(Pen),
-    Full,
-}

@@ -8,14 +8,14 @@ ghost use Rattle.pens.specs.Writing.{RestIs, RowAt, Opens, PrintsNoted, TellsInn
 use entries::shapes::{shape_for, sort_of};
 use entries::{Rest, SORT_OPENER, SORT_OPENING};
 use keywords::put_key;
-use leaves::Wrote;
+use leaves::NoRoom;
 use prints::rows::{put_plain, put_row};
 use rules::Span;
 use tables::lookup::row_of;
 use tables::{
-    Found, HOLDS_BLOCK, HOLDS_TEXT, Row, TABLE_BASE, TABLE_DRAWING, TABLE_ELEC, TABLE_FILE,
-    TABLE_LATER, TABLE_LAYER_TEXT, TABLE_PLACED, TABLE_PLACED_TEXT, TABLE_RANGE, TABLE_SYM,
-    TABLE_SYMBOL_TEXT, TABLE_WIRE,
+    HOLDS_BLOCK, HOLDS_TEXT, Row, TABLE_BASE, TABLE_DRAWING, TABLE_ELEC, TABLE_FILE, TABLE_LATER,
+    TABLE_LAYER_TEXT, TABLE_PLACED, TABLE_PLACED_TEXT, TABLE_RANGE, TABLE_SYM, TABLE_SYMBOL_TEXT,
+    TABLE_WIRE,
 };
 
 // What follows a line's key in one number, never 0: 65,536 is more than any place, and no line's key stands at the spool's first byte.
@@ -155,26 +155,32 @@ pub(crate) fn note_at(notes: &[u32], i: usize) -> u32
 }
 
 // The row of a number. Its key is written where the row's line will be, and compared there.
-fn row_at(table: u8, number: u8, out: &mut [u8]) -> Found
+fn row_at(table: u8, number: u8, out: &mut [u8]) -> Option<Row>
     ensures { RowAt table number out.old out.new result }
 {
     let wrote = put_key(table, number, out);
-    let Wrote::Bytes(n) = wrote else {
-        return Found::Absent;
+    let Ok(n) = wrote else {
+        return None;
     };
     row_of(table, &out[..n])
 }
 
 // One row, where it was noted.
-pub(crate) fn put_noted(table: u8, number: u8, s: &[u8], note: u32, out: &mut [u8]) -> Wrote
+pub(crate) fn put_noted(
+    table: u8,
+    number: u8,
+    s: &[u8],
+    note: u32,
+    out: &mut [u8],
+) -> Result<usize, NoRoom>
     ensures { Within out.old out.new result × PrintsNoted s.now table number note out.old out.new result }
 {
     if note == 0 {
-        return Wrote::Bytes(0);
+        return Ok(0);
     }
     let found = row_at(table, number, out);
-    let Found::Row(row) = found else {
-        return Wrote::Full;
+    let Some(row) = found else {
+        return Err(NoRoom);
     };
     put_row(table, row, s, rest_of(row, note), out)
 }
@@ -190,7 +196,7 @@ fn inner_table(base: u8, table: u8, number: u8, s: &[u8], note: u32, out: &mut [
         return NO_TABLE;
     }
     let found = row_at(table, number, out);
-    let Found::Row(row) = found else {
+    let Some(row) = found else {
         return NO_TABLE;
     };
     if opens(s, row, rest_of(row, note)) {
@@ -208,41 +214,49 @@ pub(crate) fn put_part(
     s: &[u8],
     notes: &[u32],
     out: &mut [u8],
-) -> Wrote
+) -> Result<usize, NoRoom>
     requires { depth ≤ 3 }
     ensures { Within out.old out.new result × PrintsPart s.now depth base inner notes.now out.old out.new result }
 {
     if inner == NO_TABLE {
-        return Wrote::Bytes(0);
+        return Ok(0);
     }
     let rows = put_rows(depth, base, inner, 0, s, notes, out);
-    let Wrote::Bytes(n) = rows else {
-        return Wrote::Full;
+    let Ok(n) = rows else {
+        return Err(NoRoom);
     };
     let end = put_plain(b"}", &mut out[n..]);
-    let Wrote::Bytes(m) = end else {
-        return Wrote::Full;
+    let Ok(m) = end else {
+        return Err(NoRoom);
     };
-    Wrote::Bytes(n + m)
+    Ok(n + m)
 }
 
 // The row of number j, and the inner part that it opens.
 #[cycle(parts)]
-fn put_slot(depth: u8, base: u8, table: u8, j: u8, s: &[u8], notes: &[u32], out: &mut [u8]) -> Wrote
+fn put_slot(
+    depth: u8,
+    base: u8,
+    table: u8,
+    j: u8,
+    s: &[u8],
+    notes: &[u32],
+    out: &mut [u8],
+) -> Result<usize, NoRoom>
     requires { depth ≤ 3 }
     ensures { Within out.old out.new result × PrintsSlot s.now depth base table j notes.now out.old out.new result }
 {
     let note = note_at(notes, notes_from(table) + j as usize);
     let inner = inner_table(base, table, j, s, note, out);
     let line = put_noted(table, j, s, note, out);
-    let Wrote::Bytes(n) = line else {
-        return Wrote::Full;
+    let Ok(n) = line else {
+        return Err(NoRoom);
     };
     let part = put_part(depth, base, inner, s, notes, &mut out[n..]);
-    let Wrote::Bytes(m) = part else {
-        return Wrote::Full;
+    let Ok(m) = part else {
+        return Err(NoRoom);
     };
-    Wrote::Bytes(n + m)
+    Ok(n + m)
 }
 
 // The rows of a part from number j on, each inner part and its `}` behind the line that opens it; at most `depth` parts are in each other.
@@ -255,23 +269,23 @@ pub(crate) fn put_rows(
     s: &[u8],
     notes: &[u32],
     out: &mut [u8],
-) -> Wrote
+) -> Result<usize, NoRoom>
     requires { (depth ≤ 3) × (j ≤ 16) }
     ensures { Within out.old out.new result × PrintsRows s.now depth base table j notes.now out.old out.new result }
 {
     if depth == 0 {
-        return Wrote::Bytes(0);
+        return Ok(0);
     }
     if rows_in(table) <= j {
-        return Wrote::Bytes(0);
+        return Ok(0);
     }
     let slot = put_slot(depth - 1, base, table, j, s, notes, out);
-    let Wrote::Bytes(n) = slot else {
-        return Wrote::Full;
+    let Ok(n) = slot else {
+        return Err(NoRoom);
     };
     let others = put_rows(depth, base, table, j + 1, s, notes, &mut out[n..]);
-    let Wrote::Bytes(m) = others else {
-        return Wrote::Full;
+    let Ok(m) = others else {
+        return Err(NoRoom);
     };
-    Wrote::Bytes(n + m)
+    Ok(n + m)
 }

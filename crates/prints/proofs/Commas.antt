@@ -1,9 +1,9 @@
 -- Pieces between commas, one after the other.
+use Rattle.std.specs.Prelude.{Option, Some, None, Result}
 use Prim.Native.Nat.{ℕ, ◌+◌, ◌-◌, ◌%◌, ◌<◌, ◌≤◌}
 use mathlib.Core.Path.{◌≡◌, refl, ap, sym, subst, ◌∙◌}
 use mathlib.Core.Bool.{Bool, true, false, cond}
 use mathlib.Core.List.{List, [], ◌∷◌, ◌++◌, append_assoc}
-use mathlib.Core.Option.{Option, none, some}
 use native.Mathlib.Omega.{arith}
 use lib.Dec.{eqb}
 use lib.IntN.{ℤ}
@@ -11,47 +11,45 @@ use lib.ListN.{length, take, drop, length-drop}
 use lib.Seq.{drop-drop}
 use Rattle.rules.specs.Base.{split, head_onto, join}
 use Rattle.leaves.specs.Bytes.{up_to}
-use Rattle.leaves.specs.Readings.{count_of, reading_of}
-use Rattle.leaves.specs.declared.Wrote.{Wrote}
-use Rattle.leaves.specs.declared.Count.TheVariants as C
+use Rattle.leaves.specs.Readings.{reading_of}
 use Rattle.leaves.specs.declared.Decimal.{Decimal}
-use Rattle.leaves.specs.declared.Reading.TheVariants as R
 use Rattle.leaves.proofs.Scan.{rest_all}
 use Rattle.leaves.proofs.Cuts.{split-last, piece-first, piece-more}
 use Rattle.prints.specs.Printing.{Writes}
 use Rattle.prints.specs.Texts.{anew, piece_text, next_forms, piece_texts, pieces_text}
 use Rattle.prints.proofs.Going.{then}
+use Rattle.leaves.specs.declared.NoRoom.{NoRoom}
 
 -- ── what a reading tells ──
-count-is : (o : Option ℕ) (n : ℕ) → C.Is n ≡ count_of o → o ≡ some n
-count-is none n e = absurd (let z : ◌≡◌ {A = ℕ} 0 1 = cc in omega arith)
-count-is (some m) n e = cc
+count-is : (o : Option ℕ) (n : ℕ) → Some n ≡ o → o ≡ Some n
+count-is None n e = absurd (let z : ◌≡◌ {A = ℕ} 0 1 = cc in omega arith)
+count-is (Some m) n e = cc
 
-count-not : (o : Option ℕ) → C.Not ≡ count_of o → o ≡ none
-count-not none e = refl
-count-not (some m) e = absurd (let z : ◌≡◌ {A = ℕ} 0 1 = cc in omega arith)
+count-not : (o : Option ℕ) → None ≡ o → o ≡ None
+count-not None e = refl
+count-not (Some m) e = absurd (let z : ◌≡◌ {A = ℕ} 0 1 = cc in omega arith)
 
-reading-is : (o : Option ℤ) (d : Decimal) → R.Is d ≡ reading_of o → o ≡ some d.value
-reading-is none d e = absurd (let z : ◌≡◌ {A = ℕ} 0 1 = cc in omega arith)
-reading-is (some z) d e = let q : d ≡ record { value = z } = cc in ap (λ (x : Decimal). some x.value) (sym q)
+reading-is : (o : Option ℤ) (d : Decimal) → Some d ≡ reading_of o → o ≡ Some d.value
+reading-is None d e = absurd (let z : ◌≡◌ {A = ℕ} 0 1 = cc in omega arith)
+reading-is (Some z) d e = let q : d ≡ record { value = z } = cc in ap (λ (x : Decimal). Some x.value) (sym q)
 
-reading-not : (o : Option ℤ) → R.Not ≡ reading_of o → o ≡ none
-reading-not none e = refl
-reading-not (some z) e = absurd (let z : ◌≡◌ {A = ℕ} 0 1 = cc in omega arith)
+reading-not : (o : Option ℤ) → None ≡ reading_of o → o ≡ None
+reading-not None e = refl
+reading-not (Some z) e = absurd (let z : ◌≡◌ {A = ℕ} 0 1 = cc in omega arith)
 
-module _ (c before after : List ℕ) (at w : Wrote) where
+module _ (c before after : List ℕ) (at w : Result ℕ NoRoom) where
   module _ (show : ℕ → List ℕ) (o : Option ℕ) where
-    pub count-anew : (n : ℕ) → C.Is n ≡ count_of o → Writes (show n) at before after w → Writes (anew c show o) at before after w
+    pub count-anew : (n : ℕ) → Some n ≡ o → Writes (show n) at before after w → Writes (anew c show o) at before after w
     count-anew n e h = rw (count-is o n e) h
 
-    pub count-stands : C.Not ≡ count_of o → Writes c at before after w → Writes (anew c show o) at before after w
+    pub count-stands : None ≡ o → Writes c at before after w → Writes (anew c show o) at before after w
     count-stands e h = rw (count-not o e) h
 
   module _ (show : ℤ → List ℕ) (o : Option ℤ) where
-    pub reading-anew : (d : Decimal) → R.Is d ≡ reading_of o → Writes (show d.value) at before after w → Writes (anew c show o) at before after w
+    pub reading-anew : (d : Decimal) → Some d ≡ reading_of o → Writes (show d.value) at before after w → Writes (anew c show o) at before after w
     reading-anew d e h = rw (reading-is o d e) h
 
-    pub reading-stands : R.Not ≡ reading_of o → Writes c at before after w → Writes (anew c show o) at before after w
+    pub reading-stands : None ≡ reading_of o → Writes c at before after w → Writes (anew c show o) at before after w
     reading-stands e h = rw (reading-not o e) h
 
 -- ── joined by commas ──
@@ -77,12 +75,12 @@ module _ (forms : ℕ) (alike : Bool) where
       ∙ sym (append_assoc t (44 ∷ []) (join 44 (piece_texts forms alike (p ∷ rest))))
       ∙ ap (λ (q : List (List ℕ)). (t ++ 44 ∷ []) ++ join 44 (piece_texts forms alike q)) (sym e)
 
-module _ (forms : ℕ) (alike : Bool) (c before : List ℕ) (at : Wrote) (e : ℕ) (f : e ≡ length (up_to 44 c)) where
-  pub last-piece : (after : List ℕ) (w : Wrote) → length c ≤ e → Writes (piece_text (forms % 100) c) at before after w → Writes (pieces_text forms alike c) at before after w
+module _ (forms : ℕ) (alike : Bool) (c before : List ℕ) (at : Result ℕ NoRoom) (e : ℕ) (f : e ≡ length (up_to 44 c)) where
+  pub last-piece : (after : List ℕ) (w : Result ℕ NoRoom) → length c ≤ e → Writes (piece_text (forms % 100) c) at before after w → Writes (pieces_text forms alike c) at before after w
   unfolding pieces_text
   last-piece after w h p = rw (split-last 44 c (rw f at h)) p
 
-  pub more-pieces : e < length c → (rest : ℕ) → rest ≡ next_forms forms alike → (b d after : List ℕ) (p q w : Wrote)
+  pub more-pieces : e < length c → (rest : ℕ) → rest ≡ next_forms forms alike → (b d after : List ℕ) (p q w : Result ℕ NoRoom)
       → Writes (piece_text (forms % 100) (take e c)) at before b p → Writes (44 ∷ []) p b d q → Writes (pieces_text rest alike (take (length c - (e + 1)) (drop (e + 1) c))) q d after w
       → Writes (pieces_text forms alike c) at before after w
   unfolding pieces_text
@@ -99,16 +97,16 @@ module _ (forms : ℕ) (alike : Bool) (c before : List ℕ) (at : Wrote) (e : �
 
 -- ── piece by piece ──
 -- from i on: whatever writes the pieces that are left, from where those before them ended, has written all
-pub record Goes (forms : ℕ) (alike : Bool) (c : List ℕ) (at : Wrote) (before out : List ℕ) (left : ℕ) (there : Wrote) (i : ℕ) : Type 0 where
+pub record Goes (forms : ℕ) (alike : Bool) (c : List ℕ) (at : Result ℕ NoRoom) (before out : List ℕ) (left : ℕ) (there : Result ℕ NoRoom) (i : ℕ) : Type 0 where
   pub within : i ≤ length c
   pub long : length out ≡ length before
-  pub ends : (after : List ℕ) (w : Wrote) → Writes (pieces_text left alike (take (length c - i) (drop i c))) there out after w → Writes (pieces_text forms alike c) at before after w
+  pub ends : (after : List ℕ) (w : Result ℕ NoRoom) → Writes (pieces_text left alike (take (length c - i) (drop i c))) there out after w → Writes (pieces_text forms alike c) at before after w
 
-module _ (forms : ℕ) (alike : Bool) (c before : List ℕ) (at : Wrote) where
+module _ (forms : ℕ) (alike : Bool) (c before : List ℕ) (at : Result ℕ NoRoom) where
   pub none_yet : Goes forms alike c at before before forms at 0
   none_yet = record { within = omega arith; long = refl; ends = λ after w z. rw (rest_all 0 c) at z }
 
-  module _ (out : List ℕ) (left : ℕ) (there : Wrote) (i : ℕ) (g : Goes forms alike c at before out left there i) where
+  module _ (out : List ℕ) (left : ℕ) (there : Result ℕ NoRoom) (i : ℕ) (g : Goes forms alike c at before out left there i) where
     abbrev rest : List ℕ
     rest = take (length c - i) (drop i c)
 
@@ -119,13 +117,13 @@ module _ (forms : ℕ) (alike : Bool) (c before : List ℕ) (at : Wrote) where
     behind k = rest_all k rest ∙ ap (drop k) (rest_all i c) ∙ drop-drop k i c ∙ sym (rest_all (i + k) c)
 
     module _ (e : ℕ) (f : e ≡ length (up_to 44 rest)) where
-      pub all-written : (after : List ℕ) (w : Wrote) → length rest ≤ e → Writes (piece_text (left % 100) rest) there out after w → Writes (pieces_text forms alike c) at before after w
+      pub all-written : (after : List ℕ) (w : Result ℕ NoRoom) → length rest ≤ e → Writes (piece_text (left % 100) rest) there out after w → Writes (pieces_text forms alike c) at before after w
       all-written after w h p = g.ends after w (last-piece left alike rest out there e f after w h p)
 
       pub room-behind : e < length rest → i + (e + 1) ≤ length c
       room-behind h = omega (arith, h, rest-long, g.within)
 
-      pub one_more : e < length rest → (next : ℕ) → next ≡ next_forms left alike → (b d : List ℕ) (p q : Wrote)
+      pub one_more : e < length rest → (next : ℕ) → next ≡ next_forms left alike → (b d : List ℕ) (p q : Result ℕ NoRoom)
           → Writes (piece_text (left % 100) (take e rest)) there out b p → Writes (44 ∷ []) p b d q → Goes forms alike c at before d next q (i + (e + 1))
       one_more h next r b d p q x y =
           record {

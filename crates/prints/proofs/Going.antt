@@ -1,4 +1,5 @@
 -- Texts one behind the other: each goes on where the one before it ended.
+use Rattle.std.specs.Prelude.{Result, Ok, Err}
 use Prim.Native.Nat.{ℕ, ◌+◌, ◌-◌, ◌<◌, ◌≤◌}
 use mathlib.Core.Path.{◌≡◌, refl, ap, sym, ◌∙◌}
 use mathlib.Core.Bool.{Bool, true, false, cond}
@@ -11,19 +12,19 @@ use lib.Seq.{take_at, drop-append-add, drop-drop, length-take-le}
 use borrow.Author.Tests.{le-leb, lt-leb, leb-true, leb-false}
 use borrow.Rule.Slice.PartMut.{put_mid}
 use Rattle.leaves.specs.Writing.{Puts}
-use Rattle.leaves.specs.declared.Wrote.{Wrote}
-use Rattle.leaves.specs.declared.Wrote.TheVariants as W
 use Rattle.leaves.proofs.Scan.{rest_all}
 use Rattle.prints.specs.Printing.{Prints, Within, go_on, Writes, shift}
+use Rattle.leaves.specs.declared.NoRoom.{NoRoom}
+use Rattle.leaves.specs.NoRoom.{no_room}
 
-full-bytes : {P : Type 0} {n : ℕ} → W.Full ≡ W.Bytes n → P
+full-bytes : {P : Type 0} {n : ℕ} → (Err no_room) ≡ Ok n → P
 full-bytes e = absurd (let z : ◌≡◌ {A = ℕ} 0 1 = cc in omega arith)
 
-same_place : (n m : ℕ) → W.Bytes n ≡ W.Bytes m → n ≡ m
+same_place : (n m : ℕ) → Ok n ≡ Ok m → n ≡ m
 same_place n m e = cc
 
 -- ── a text with all or nothing of it written ──
-module _ (text before after : List ℕ) (r : Wrote) (p : Puts text before after r) where
+module _ (text before after : List ℕ) (r : Result ℕ NoRoom) (p : Puts text before after r) where
   put_all : length text ≤ length before → after ≡ text ++ drop (length text) before
   put_all h = p.memory ∙ rw (le-leb (length text) (length before) h)
 
@@ -35,10 +36,10 @@ module _ (text before after : List ℕ) (r : Wrote) (p : Puts text before after 
       kept false h = refl
 
 -- ── where there is no room ──
-pub none_left : (text before : List ℕ) (at : Wrote) → at ≡ W.Full → Writes text at before before W.Full
+pub none_left : (text before : List ℕ) (at : Result ℕ NoRoom) → at ≡ (Err no_room) → Writes text at before before (Err no_room)
 none_left text before at e = rw e (record { answer = refl; memory = λ n z. full-bytes z; long = refl })
 
-pub beyond : (text before : List ℕ) (at : Wrote) (n : ℕ) → at ≡ W.Bytes n → length before < n → Writes text at before before W.Full
+pub beyond : (text before : List ℕ) (at : Result ℕ NoRoom) (n : ℕ) → at ≡ Ok n → length before < n → Writes text at before before (Err no_room)
 beyond text before at n e h =
     rw e
     (record {
@@ -48,7 +49,7 @@ beyond text before at n e h =
     })
 
 -- ── a text in the rest of the output ──
-module _ (text before after : List ℕ) (n : ℕ) (r : Wrote) (h : n ≤ length before) (p : Puts text (take (length before - n) (drop n before)) after r) where
+module _ (text before after : List ℕ) (n : ℕ) (r : Result ℕ NoRoom) (h : n ≤ length before) (p : Puts text (take (length before - n) (drop n before)) after r) where
   rest_put : Puts text (drop n before) after r
   rest_put = rw (rest_all n before) at p
 
@@ -61,7 +62,7 @@ module _ (text before after : List ℕ) (n : ℕ) (r : Wrote) (h : n ≤ length 
       ap (λ (l : List ℕ). take n before ++ (after ++ l)) (drop_of_length-le (drop n before) {i = length before - n} (omega (arith, rest-long)))
       ∙ ap (λ (l : List ℕ). take n before ++ l) (append-nil after)
 
-  moved : (t : Bool) → leb (length text) (length (drop n before)) ≡ t → shift n r ≡ go_on text (W.Bytes n) (length before)
+  moved : (t : Bool) → leb (length text) (length (drop n before)) ≡ t → shift n r ≡ go_on text (Ok n) (length before)
   moved true e =
       let l = leb-true (length text) (length (drop n before)) e in
       ap (shift n) rest_put.answer ∙ rw (e, le-leb (n + length text) (length before) (omega (arith, l, rest-long)))
@@ -69,7 +70,7 @@ module _ (text before after : List ℕ) (n : ℕ) (r : Wrote) (h : n ≤ length 
       let l = leb-false (length text) (length (drop n before)) e in
       ap (shift n) rest_put.answer ∙ rw (e, lt-leb (n + length text) (length before) (omega (arith, l, rest-long)))
 
-  placed : Writes text (W.Bytes n) before (put_mid n (length before - n) before after) (shift n r)
+  placed : Writes text (Ok n) before (put_mid n (length before - n) before after) (shift n r)
   placed =
       record {
         answer = moved (leb (length text) (length (drop n before))) refl;
@@ -81,34 +82,34 @@ module _ (text before after : List ℕ) (n : ℕ) (r : Wrote) (h : n ≤ length 
       }
 
 -- the same, by what is known of the answers
-module _ (text before after : List ℕ) (at r : Wrote) (n : ℕ) (e : at ≡ W.Bytes n) (h : n ≤ length before) (p : Puts text (take (length before - n) (drop n before)) after r) where
-  there : Writes text (W.Bytes n) before (put_mid n (length before - n) before after) (shift n r)
+module _ (text before after : List ℕ) (at r : Result ℕ NoRoom) (n : ℕ) (e : at ≡ Ok n) (h : n ≤ length before) (p : Puts text (take (length before - n) (drop n before)) after r) where
+  there : Writes text (Ok n) before (put_mid n (length before - n) before after) (shift n r)
   there = placed text before after n r h p
 
-  pub placed-full : r ≡ W.Full → Writes text at before (put_mid n (length before - n) before after) W.Full
+  pub placed-full : r ≡ (Err no_room) → Writes text at before (put_mid n (length before - n) before after) (Err no_room)
   placed-full f = rw e (rw f at there)
 
-  pub placed-bytes : (m : ℕ) → r ≡ W.Bytes m → Writes text at before (put_mid n (length before - n) before after) (W.Bytes (n + m))
+  pub placed-bytes : (m : ℕ) → r ≡ Ok m → Writes text at before (put_mid n (length before - n) before after) (Ok (n + m))
   placed-bytes m f = rw e (rw f at there)
 
-  pub placed-room : (m : ℕ) → r ≡ W.Bytes m → n + m ≤ length before
+  pub placed-room : (m : ℕ) → r ≡ Ok m → n + m ≤ length before
   placed-room m f = go (leb (n + length text) (length before)) refl (rw f at there.answer)
     where
-      go : (t : Bool) → leb (n + length text) (length before) ≡ t → W.Bytes (n + m) ≡ cond t (W.Bytes (n + length text)) W.Full → n + m ≤ length before
+      go : (t : Bool) → leb (n + length text) (length before) ≡ t → Ok (n + m) ≡ cond t (Ok (n + length text)) (Err no_room) → n + m ≤ length before
       go true q z = let s = same_place (n + m) (n + length text) z in omega (arith, s, leb-true (n + length text) (length before) q)
       go false q z = full-bytes (sym z)
 
 -- ── one text and then another ──
 module _ (a d b c e : List ℕ) where
-  both-answer : (p q r : Wrote) → q ≡ go_on a p (length b) → r ≡ go_on d q (length b) → r ≡ go_on (a ++ d) p (length b)
-  both-answer W.Full q r f g = g ∙ ap (λ (w : Wrote). go_on d w (length b)) f
-  both-answer (W.Bytes n) q r f g = g ∙ ap (λ (w : Wrote). go_on d w (length b)) f ∙ go (leb (n + length a) (length b)) refl
+  both-answer : (p q r : Result ℕ NoRoom) → q ≡ go_on a p (length b) → r ≡ go_on d q (length b) → r ≡ go_on (a ++ d) p (length b)
+  both-answer (Err no_room) q r f g = g ∙ ap (λ (w : Result ℕ NoRoom). go_on d w (length b)) f
+  both-answer (Ok n) q r f g = g ∙ ap (λ (w : Result ℕ NoRoom). go_on d w (length b)) f ∙ go (leb (n + length a) (length b)) refl
     where
       sum : n + length a + length d ≡ n + length (a ++ d)
       sum = omega (arith, length-append a d)
 
-      go : (t : Bool) → leb (n + length a) (length b) ≡ t → go_on d (cond t (W.Bytes (n + length a)) W.Full) (length b) ≡ go_on (a ++ d) (W.Bytes n) (length b)
-      go true k = ap (λ (m : ℕ). cond (leb m (length b)) (W.Bytes m) W.Full) sum
+      go : (t : Bool) → leb (n + length a) (length b) ≡ t → go_on d (cond t (Ok (n + length a)) (Err no_room)) (length b) ≡ go_on (a ++ d) (Ok n) (length b)
+      go true k = ap (λ (m : ℕ). cond (leb m (length b)) (Ok m) (Err no_room)) sum
       go false k = sym (rw (lt-leb (n + length (a ++ d)) (length b) (omega (arith, sum, leb-false (n + length a) (length b) k))))
 
   both-memory : (n : ℕ) → n + length (a ++ d) ≤ length b → c ≡ take n b ++ (a ++ drop (n + length a) b)
@@ -130,19 +131,19 @@ module _ (a d b c e : List ℕ) where
       (append_assoc (take n b) a (d ++ drop (n + length (a ++ d)) b)
       ∙ ap (λ (l : List ℕ). take n b ++ l) (sym (append_assoc a d (drop (n + length (a ++ d)) b))))
 
-  pub then : (p q r : Wrote) → Writes a p b c q → Writes d q c e r → Writes (a ++ d) p b e r
+  pub then : (p q r : Result ℕ NoRoom) → Writes a p b c q → Writes d q c e r → Writes (a ++ d) p b e r
   then p q r f g =
       record {
         answer = both-answer p q r f.answer (rw f.long at g.answer);
         memory = λ n z h.
             let fits : n + length a ≤ length b = omega (arith, h, length-append a d) in
-            let there : q ≡ W.Bytes (n + length a) = f.answer ∙ rw (z, le-leb (n + length a) (length b) fits) in
+            let there : q ≡ Ok (n + length a) = f.answer ∙ rw (z, le-leb (n + length a) (length b) fits) in
             both-memory n h (f.memory n z fits) (g.memory (n + length a) there (rw f.long (omega (arith, h, length-append a d))));
         long = g.long ∙ f.long;
       }
 
 -- ── at the front ──
-pub from_front : (text before after : List ℕ) (r : Wrote) → Puts text before after r → Writes text (W.Bytes 0) before after r
+pub from_front : (text before after : List ℕ) (r : Result ℕ NoRoom) → Puts text before after r → Writes text (Ok 0) before after r
 from_front text before after r p =
     record {
       answer = rw (zero-add (length text)) p.answer;
@@ -152,7 +153,7 @@ from_front text before after r p =
       long = put-long text before after r p;
     }
 
-pub at_front : (text before after : List ℕ) (r : Wrote) → Writes text (W.Bytes 0) before after r → Prints text before after r
+pub at_front : (text before after : List ℕ) (r : Result ℕ NoRoom) → Writes text (Ok 0) before after r → Prints text before after r
 at_front text before after r p =
     record {
       answer = rw (zero-add (length text)) at p.answer;
@@ -160,10 +161,10 @@ at_front text before after r p =
     }
 
 -- whatever is written from the front on ends within the output
-pub front-within : (text before after : List ℕ) (r : Wrote) → Writes text (W.Bytes 0) before after r → Within before after r
+pub front-within : (text before after : List ℕ) (r : Result ℕ NoRoom) → Writes text (Ok 0) before after r → Within before after r
 front-within text before after r p =
     record { long = p.long; within = λ n e. go n (leb (0 + length text) (length before)) refl (sym e ∙ p.answer) }
   where
-    go : (n : ℕ) (t : Bool) → leb (0 + length text) (length before) ≡ t → W.Bytes n ≡ cond t (W.Bytes (0 + length text)) W.Full → n ≤ length before
+    go : (n : ℕ) (t : Bool) → leb (0 + length text) (length before) ≡ t → Ok n ≡ cond t (Ok (0 + length text)) (Err no_room) → n ≤ length before
     go n true q z = let s = same_place n (0 + length text) z in omega (arith, s, leb-true (0 + length text) (length before) q)
     go n false q z = full-bytes (sym z)

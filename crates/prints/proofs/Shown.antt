@@ -1,9 +1,9 @@
 -- What is written of a content that was read is its fixed form.
+use Rattle.std.specs.Prelude.{Some}
 use Prim.Native.Nat.{ℕ, zero, suc, ◌+◌, ◌-◌, ◌/◌, ◌%◌, ◌≤◌}
 use mathlib.Core.Path.{◌≡◌, refl, ap, sym, subst, ◌∙◌}
 use mathlib.Core.Bool.{Bool, true, false, cond, ◌&&◌, ◌||◌, not}
 use mathlib.Core.List.{List, [], ◌∷◌, ◌++◌, map}
-use mathlib.Core.Option.{some}
 use native.Mathlib.Omega.{arith}
 use lib.Dec.{eqb, leb, ltb}
 use lib.IntN.{pos}
@@ -62,7 +62,7 @@ trimmed w s d l h =
     ap trim (fixed_same w (value s) z (rw (run, zeros-value (w - length s) s))) ∙ trim-zeros (w - length s) s l
 
 -- a count of at most w digits is written with the needed ones
-pub count-text : (w : ℕ) (c : List ℕ) (n : ℕ) → w ≤ 10 → read_count w c ≡ some n → anew c (show_count 20) (read_count 10 c) ≡ show_count w n
+pub count-text : (w : ℕ) (c : List ℕ) (n : ℕ) → w ≤ 10 → read_count w c ≡ Some n → anew c (show_count 20) (read_count 10 c) ≡ show_count w n
 count-text w c n h e =
     let (r, q) = cond-some (digit_run 1 w c) (value c) n e in
     let (d, l, m) = run-parts 1 w c r in

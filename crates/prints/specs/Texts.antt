@@ -1,6 +1,5 @@
 -- What is written of a line's parts, whatever they are: that it is the fixed form, where they were read, is a law.
-use Rattle.std.specs.Prelude.{ℕ, ◌/◌, ◌%◌, Bool, true, false, cond, ◌&&◌, ◌||◌, List, [], ◌∷◌, ◌++◌, map, eqb, leb, ltb}
-use Rattle.std.proofs.Math.Option.{Option, none, some}
+use Rattle.std.specs.Prelude.{ℕ, ◌/◌, ◌%◌, Bool, true, false, cond, ◌&&◌, ◌||◌, List, [], ◌∷◌, ◌++◌, map, eqb, leb, ltb, Option, Some, None}
 use Rattle.rules.specs.Base.{bytes, split, join}
 use Rattle.rules.specs.RefusalNumbers.{Got, got, bad}
 use Rattle.rules.specs.Numbers.{read_count, read_decimal, show_count, show_decimal}
@@ -13,8 +12,8 @@ use Rattle.tables.specs.Numbering.{holds_wire_serial, holds_circle, part_count, 
 
 -- what was read is written anew, what was not stands as it is
 abbrev pub anew : {A : Type 0} → List ℕ → (A → List ℕ) → Option A → List ℕ
-anew c show none = c
-anew c show (some a) = show a
+anew c show None = c
+anew c show (Some a) = show a
 
 -- one piece by its form's number: decimals, counts
 abbrev pub piece_text : ℕ → List ℕ → List ℕ

@@ -7,16 +7,16 @@ ghost use Rattle.tables.specs.Numbering.{holds_values, holds_serials, holds_eith
 
 use crate::pieces::{piece, pieces};
 use crate::texts::{scale as put_scale, sheet as put_sheet, text};
+use leaves::NoRoom;
 use leaves::bytes::capital;
 use leaves::sheets::{ratio, sheet};
-use leaves::{Ratio, Sheet, Wrote};
 use tables::{
     ARC_FORMS, HOLDS_CIRCLE, HOLDS_EITHER, HOLDS_HEADED, HOLDS_RATIO, HOLDS_SERIALS, HOLDS_SHEET,
     HOLDS_VALUES, HOLDS_VOLUME_NAME, HOLDS_WIRE_SERIAL, PART_COUNT, Row,
 };
 
 // The name of the next volume, in capitals, byte by byte.
-fn capitals(c: &[u8], at: Wrote, out: &mut [u8]) -> Wrote
+fn capitals(c: &[u8], at: Result<usize, NoRoom>, out: &mut [u8]) -> Result<usize, NoRoom>
     ensures { Writes (map capital c.now) at out.old out.new result }
 {
     if c.len() == 0 {
@@ -30,19 +30,19 @@ fn capitals(c: &[u8], at: Wrote, out: &mut [u8]) -> Wrote
     capitals(&c[1..], w, out)
 }
 
-fn size(c: &[u8], at: Wrote, out: &mut [u8]) -> Wrote
+fn size(c: &[u8], at: Result<usize, NoRoom>, out: &mut [u8]) -> Result<usize, NoRoom>
     ensures { Writes (sheet_text c.now (find_sheet c.now sheets)) at out.old out.new result }
 {
-    let Sheet::Is(z) = sheet(c) else {
+    let Some(z) = sheet(c) else {
         return text(c, at, out);
     };
     put_sheet(z.multiplier as u64, z.number as u64, at, out)
 }
 
-fn scale(c: &[u8], at: Wrote, out: &mut [u8]) -> Wrote
+fn scale(c: &[u8], at: Result<usize, NoRoom>, out: &mut [u8]) -> Result<usize, NoRoom>
     ensures { Writes (ratio_text c.now (read_ratio c.now)) at out.old out.new result }
 {
-    let Ratio::Is(z) = ratio(c) else {
+    let Ok(z) = ratio(c) else {
         return text(c, at, out);
     };
     put_scale(z.p as u64, z.q as u64, at, out)
@@ -79,7 +79,12 @@ fn forms_of(row: Row) -> u64
 }
 
 // A content that is not empty.
-pub(crate) fn content(row: Row, c: &[u8], at: Wrote, out: &mut [u8]) -> Wrote
+pub(crate) fn content(
+    row: Row,
+    c: &[u8],
+    at: Result<usize, NoRoom>,
+    out: &mut [u8],
+) -> Result<usize, NoRoom>
     ensures { Writes (content_text row c.now) at out.old out.new result }
 {
     if row.kind == HOLDS_VOLUME_NAME {

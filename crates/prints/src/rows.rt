@@ -12,27 +12,33 @@ use entries::names::part;
 use entries::shapes::shape_for;
 use entries::{Rest, Shape};
 use keywords::put_key;
-use leaves::Wrote;
+use leaves::NoRoom;
 use rules::Span;
 use tables::{HOLDS_TEXT, Row};
 
 // The end of a line.
-fn end(at: Wrote, out: &mut [u8]) -> Wrote
+fn end(at: Result<usize, NoRoom>, out: &mut [u8]) -> Result<usize, NoRoom>
     ensures { Writes line_end at out.old out.new result }
 {
     text(b"\r\n", at, out)
 }
 
 // A text and the end of its line.
-pub fn put_plain(line: &[u8], out: &mut [u8]) -> Wrote
+pub fn put_plain(line: &[u8], out: &mut [u8]) -> Result<usize, NoRoom>
     ensures { Within out.old out.new result × Prints (line.now ++ line_end) out.old out.new result }
 {
-    let w = text(line, Wrote::Bytes(0), out);
+    let w = text(line, Ok(0), out);
     end(w, out)
 }
 
 // What stands behind the key of a row, by its line's shape.
-fn behind(row: Row, s: &[u8], shape: Shape, at: Wrote, out: &mut [u8]) -> Wrote
+fn behind(
+    row: Row,
+    s: &[u8],
+    shape: Shape,
+    at: Result<usize, NoRoom>,
+    out: &mut [u8],
+) -> Result<usize, NoRoom>
     ensures { Writes (behind_text row (shape_in s.now shape)) at out.old out.new result }
 {
     match shape {
@@ -52,7 +58,7 @@ fn behind(row: Row, s: &[u8], shape: Shape, at: Wrote, out: &mut [u8]) -> Wrote
 }
 
 // The line of a table's row, from what follows its key in the spool.
-pub fn put_row(table: u8, row: Row, s: &[u8], rest: Rest, out: &mut [u8]) -> Wrote
+pub fn put_row(table: u8, row: Row, s: &[u8], rest: Rest, out: &mut [u8]) -> Result<usize, NoRoom>
     ensures { Within out.old out.new result × PrintsRow table row (rest_in s.now rest) out.old out.new result }
 {
     let free = row.kind == HOLDS_TEXT;
@@ -63,10 +69,10 @@ pub fn put_row(table: u8, row: Row, s: &[u8], rest: Rest, out: &mut [u8]) -> Wro
 }
 
 // A layer's id and its name.
-pub fn put_named(s: &[u8], key: Span, rest: Rest, out: &mut [u8]) -> Wrote
+pub fn put_named(s: &[u8], key: Span, rest: Rest, out: &mut [u8]) -> Result<usize, NoRoom>
     ensures { Within out.old out.new result × PrintsLayer (bytes_at s.now key) (rest_in s.now rest) out.old out.new result }
 {
-    let id = text(part(s, key), Wrote::Bytes(0), out);
+    let id = text(part(s, key), Ok(0), out);
     let equal = text(b"=", id, out);
     let Rest::Equals(name) = rest else {
         return end(equal, out);

@@ -1,8 +1,8 @@
 -- Demand 1: the reader's and the rewriter's one answer, and the lent memory on return.
+use Rattle.std.specs.Prelude.{Option, Some, None, Result, Ok, Err}
 use Prim.Native.Nat.{ℕ, ◌*◌, ◌/◌, ◌≤◌, ◌<◌}
 use mathlib.Core.Bool.{Bool, true, false, cond, true≢false}
 use mathlib.Core.List.{List, [], ◌++◌}
-use mathlib.Core.Option.{Option, none, some}
 use mathlib.Core.Path.{◌≡◌, refl, sym, ◌∙◌, ap}
 use native.Mathlib.Omega.{arith}
 use native.Mathlib.Nat.{le_refl}
@@ -12,8 +12,6 @@ use lib.ListN.{length, take, replicate}
 use borrow.Author.Tests.{leb-true, leb-false, lt-leb}
 use Rattle.rules.specs.declared.Class.{Class}
 use Rattle.rules.specs.declared.Refusal.{Refusal}
-use Rattle.rules.specs.declared.Answer.{Answer}
-use Rattle.rules.specs.declared.Answer.TheVariants.{Accepted, Refused}
 use Rattle.rules.specs.Base.{flat}
 use Rattle.rules.specs.Spool.{Volume, volumes_of}
 use Rattle.rules.specs.RangeClass.{class_of}
@@ -30,11 +28,11 @@ use Rattle.promises.proofs.Count.{count-records}
 use Rattle.promises.proofs.Refusals.{OutcomeTold, told_set, told_number, told-spool, told_at}
 
 -- ── answers ──
-abbrev is_answer : Answer → Bool
-is_answer (Accepted n) = true
-is_answer (Refused r) = false
+abbrev is_answer : Result ℕ Refusal → Bool
+is_answer (Ok n) = true
+is_answer (Err r) = false
 
-not-refused : {P : Type 0} {n : ℕ} {r : Refusal} → Accepted n ≡ Refused r → P
+not-refused : {P : Type 0} {n : ℕ} {r : Refusal} → Ok n ≡ Err r → P
 not-refused e = absurd (true≢false (ap is_answer e))
 
 told-answer : (count : ℕ) (o : Outcome) → OutcomeTold o → Answered by_reader (answer_with count o)
@@ -47,27 +45,27 @@ lines-run e (listed ls) s q = (ls, q)
 lines-run e (no_lines v) s q = not-accepted q
 
 volumes-run : (e : Env) (vs : Option (List Volume)) (s : Set) → outcome_of_volumes e vs ≡ accepted s → (ls : List Line) × (run e (top nothing_yet 0) ls ≡ accepted s)
-volumes-run e none s q = not-accepted q
-volumes-run e (some vs) s q = lines-run e (list_volumes 1 vs) s q
+volumes-run e None s q = not-accepted q
+volumes-run e (Some vs) s q = lines-run e (list_volumes 1 vs) s q
 
 spool-run : (e : Env) (spool : List ℕ) (s : Set) → outcome_of e spool ≡ accepted s → (ls : List Line) × (run e (top nothing_yet 0) ls ≡ accepted s)
 unfolding outcome_of
 spool-run e spool s q = volumes-run e (volumes_of spool) s q
 
 -- its records fit the table
-records-fit : (c : Option Class) (m : ℕ) (spool : List ℕ) (s : Set) → outcome_at c (some m) spool ≡ accepted s → length (records_of (class_or c) s) ≤ m
-records-fit none m spool s q = not-accepted q
-records-fit (some c) m spool s q =
+records-fit : (c : Option Class) (m : ℕ) (spool : List ℕ) (s : Set) → outcome_at c (Some m) spool ≡ accepted s → length (records_of (class_or c) s) ≤ m
+records-fit None m spool s q = not-accepted q
+records-fit (Some c) m spool s q =
     let (ls, r) = spool-run (limited_to c m) spool s q in
     leb-true _ _ (count-records (limited_to c m) c ls s r)
 
 -- ── the reader ──
-table-refused : (c : Class) (len : ℕ) (o : Outcome) (r : Refusal) → answer_with (length (records_in c o)) o ≡ Refused r → table_of len (records_in c o) ≡ replicate len (pos 0)
+table-refused : (c : Class) (len : ℕ) (o : Outcome) (r : Refusal) → answer_with (length (records_in c o)) o ≡ Err r → table_of len (records_in c o) ≡ replicate len (pos 0)
 unfolding table_of
 table-refused c len (refused n v l) r q = take_replicate len len (pos 0) (le_refl len)
 table-refused c len (accepted s) r q = not-refused q
 
-table-accepted : (c : Class) (len : ℕ) (o : Outcome) (n : ℕ) → ((s : Set) → o ≡ accepted s → length (records_of c s) ≤ len / 32) → answer_with (length (records_in c o)) o ≡ Accepted n
+table-accepted : (c : Class) (len : ℕ) (o : Outcome) (n : ℕ) → ((s : Set) → o ≡ accepted s → length (records_of c s) ≤ len / 32) → answer_with (length (records_in c o)) o ≡ Ok n
     → Filled len n (records_in c o) (table_of len (records_in c o))
 unfolding table_of
 table-accepted c len (refused m v l) n h q = not-refused (sym q)
@@ -86,7 +84,7 @@ table-accepted c len (accepted s) n h q =
 
 reader-told : (class wire len : ℕ) (spool : List ℕ) → OutcomeTold (read_outcome class wire len spool)
 unfolding read_outcome
-reader-told class wire len spool = told_at (class_of class wire) (some (len / width)) spool
+reader-told class wire len spool = told_at (class_of class wire) (Some (len / width)) spool
 
 reads : (class wire len : ℕ) (spool : List ℕ) → Reads class wire len spool
 unfolding read_outcome read_records read_answer read_table table_of
@@ -101,22 +99,22 @@ reads class wire len spool =
     }
 
 -- ── the rewriter: w is what is written ──
-fit_refused : (b : Bool) (len n : ℕ) (w : List ℕ) (r : Refusal) → cond b (Accepted n) (refusal 20 0 0) ≡ Refused r → take len (cond b w [] ++ replicate len 0) ≡ replicate len 0
+fit_refused : (b : Bool) (len n : ℕ) (w : List ℕ) (r : Refusal) → cond b (Ok n) (refusal 20 0 0) ≡ Err r → take len (cond b w [] ++ replicate len 0) ≡ replicate len 0
 fit_refused true len n w r q = not-refused q
 fit_refused false len n w r q = take_replicate len len 0 (le_refl len)
 
-output-refused : (len : ℕ) (names : List (List ℕ)) (o : Outcome) (r : Refusal) → fit_output len (length (written_in names o)) (answer_with (length (written_in names o)) o) ≡ Refused r
+output-refused : (len : ℕ) (names : List (List ℕ)) (o : Outcome) (r : Refusal) → fit_output len (length (written_in names o)) (answer_with (length (written_in names o)) o) ≡ Err r
     → take len (cond (leb (length (written_in names o)) len) (written_in names o) [] ++ replicate len 0) ≡ replicate len 0
 output-refused len names (refused n v l) r q = rw (cond_same {A = List ℕ} (leb 0 len) []) (take_replicate len len 0 (le_refl len))
 output-refused len names (accepted s) r q = fit_refused (leb (length (written_in names (accepted s))) len) len _ (written_in names (accepted s)) r q
 
-fit-accepted : (b : Bool) (len n : ℕ) (w : List ℕ) → (b ≡ true → length w ≤ len) → cond b (Accepted (length w)) (refusal 20 0 0) ≡ Accepted n → Written len n w (take len (cond b w [] ++ replicate len 0))
+fit-accepted : (b : Bool) (len n : ℕ) (w : List ℕ) → (b ≡ true → length w ≤ len) → cond b (Ok (length w)) (refusal 20 0 0) ≡ Ok n → Written len n w (take len (cond b w [] ++ replicate len 0))
 fit-accepted true len n w h q =
     let count : length w ≡ n = ap answer_count q in
     record { count = count; fit = omega (arith, h refl); stands = rw (filled len 0 w (h refl), count) }
 fit-accepted false len n w h q = not-refused (sym q)
 
-output-accepted : (len : ℕ) (names : List (List ℕ)) (o : Outcome) (n : ℕ) → fit_output len (length (written_in names o)) (answer_with (length (written_in names o)) o) ≡ Accepted n
+output-accepted : (len : ℕ) (names : List (List ℕ)) (o : Outcome) (n : ℕ) → fit_output len (length (written_in names o)) (answer_with (length (written_in names o)) o) ≡ Ok n
     → Written len n (written_in names o) (take len (cond (leb (length (written_in names o)) len) (written_in names o) [] ++ replicate len 0))
 output-accepted len names (refused m v l) n q = not-refused (sym q)
 output-accepted len names (accepted s) n q = let w = written_in names (accepted s) in fit-accepted (leb (length w) len) len n w (leb-true (length w) len) q
@@ -132,18 +130,18 @@ output-short : (len count : ℕ) (o : Outcome) (s : Set) → o ≡ accepted s �
 output-short len count (refused m v l) s q h = not-accepted q
 output-short len count (accepted _) s q h = rw (lt-leb count len h)
 
-fit-short : (b : Bool) (len count n : ℕ) (r : Refusal) → (b ≡ false → len < count) → cond b (Accepted n) (refusal 20 0 0) ≡ Refused r → len < count
+fit-short : (b : Bool) (len count n : ℕ) (r : Refusal) → (b ≡ false → len < count) → cond b (Ok n) (refusal 20 0 0) ≡ Err r → len < count
 fit-short true len count n r h q = not-refused q
 fit-short false len count n r h q = h refl
 
 -- the reading itself gives no 20
-output_only : (len count : ℕ) (o : Outcome) (r : Refusal) → OutcomeTold o → fit_output len count (answer_with count o) ≡ Refused r → r.number ≡ 20 → len < count
+output_only : (len count : ℕ) (o : Outcome) (r : Refusal) → OutcomeTold o → fit_output len count (answer_with count o) ≡ Err r → r.number ≡ 20 → len < count
 output_only len count (refused n v l) r (told_number _ _ _ w) e t = let same : n ≡ r.number = ap answer_number e in clash w.known (ap (λ (k : ℕ). by_reader k) (same ∙ t))
 output_only len count (accepted s) r w e t = fit-short (leb count len) len count count r (leb-false count len) e
 
 rewriter-told : (spool : List ℕ) → OutcomeTold (rewrite_outcome spool)
 unfolding rewrite_outcome
-rewriter-told spool = told-spool (record { class = full_class; limit = none }) spool
+rewriter-told spool = told-spool (record { class = full_class; limit = None }) spool
 
 rewrites : (len : ℕ) (spool : List ℕ) → Rewrites len spool
 unfolding written rewrite_answer rewrite_bytes rewrite_output

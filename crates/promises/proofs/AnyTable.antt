@@ -1,7 +1,7 @@
 -- What is read at class 15 with a table is read without one, and with every other in which the records fit.
+use Rattle.std.specs.Prelude.{Option, Some, None}
 use Prim.Native.Nat.{ℕ, ◌*◌, ◌/◌, ◌≤◌}
 use mathlib.Core.List.{List}
-use mathlib.Core.Option.{Option, none, some}
 use mathlib.Core.Path.{◌≡◌, refl, sym, ◌∙◌}
 use native.Mathlib.Omega.{arith}
 use lib.ListN.{length}
@@ -21,7 +21,7 @@ pub rewrite-is : (spool : List ℕ) → rewrite_outcome spool ≡ outcome_of_vol
 unfolding rewrite_outcome outcome_of
 rewrite-is spool = refl
 
-pub class15 : class_of full_number full_wire ≡ some full_class
+pub class15 : class_of full_number full_wire ≡ Some full_class
 unfolding class_of
 class15 = refl
 
@@ -30,16 +30,16 @@ module _ (m : ℕ) (s : Set) where
   limited = limited_to full_class m
 
   lift-volumes : (o : Option (List Volume)) → outcome_of_volumes plain_env o ≡ accepted s → length (records_of full_class s) ≤ m → outcome_of_volumes limited o ≡ accepted s
-  lift-volumes none e h = not-accepted e
-  lift-volumes (some vs) e h = go (list_volumes 1 vs) e
+  lift-volumes None e h = not-accepted e
+  lift-volumes (Some vs) e h = go (list_volumes 1 vs) e
     where
       go : (l : Listed) → outcome_of_lines plain_env l ≡ accepted s → outcome_of_lines limited l ≡ accepted s
-      go (listed ls) e = limit-lift full_class m ls (top nothing_yet 0) s e (omega (arith, taken-counts full_class full_class none ls s e, h))
+      go (listed ls) e = limit-lift full_class m ls (top nothing_yet 0) s e (omega (arith, taken-counts full_class full_class None ls s e, h))
       go (no_lines v) e = not-accepted e
 
   drop-volumes : (o : Option (List Volume)) → outcome_of_volumes limited o ≡ accepted s → outcome_of_volumes plain_env o ≡ accepted s
-  drop-volumes none e = not-accepted e
-  drop-volumes (some vs) e = go (list_volumes 1 vs) e
+  drop-volumes None e = not-accepted e
+  drop-volumes (Some vs) e = go (list_volumes 1 vs) e
     where
       go : (l : Listed) → outcome_of_lines limited l ≡ accepted s → outcome_of_lines plain_env l ≡ accepted s
       go (listed ls) e = limit-drop full_class m ls (top nothing_yet 0) s e

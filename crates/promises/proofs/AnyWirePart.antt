@@ -1,9 +1,9 @@
 -- Any two wire parts give the same answer, records and table where E_wire is 000: such a file allows no key of a wire but its elements', which
 -- every wire part knows, and no record shows an attribute of it.
+use Rattle.std.specs.Prelude.{Option, Some, None}
 use Prim.Native.Nat.{ℕ, zero, suc, ◌<◌, ◌/◌, min}
 use mathlib.Core.Bool.{Bool, true, false, cond, ◌&&◌, ◌||◌, not}
 use mathlib.Core.List.{List, [], ◌∷◌, ◌++◌}
-use mathlib.Core.Option.{Option, none, some}
 use mathlib.Core.Path.{◌≡◌, refl, sym, ◌∙◌, ap, ap₂}
 use native.Mathlib.Omega.{arith}
 use lib.Dec.{eqb, leb, ltb}
@@ -248,16 +248,16 @@ module _ (symbols one other : Digits) (m : Option ℕ) where
       go (bad k) q ih h = refl
 
   volumes-same : (o : Option (List Volume)) → is_wired (set_of_volumes here o) ≡ false → outcome_of_volumes here o ≡ outcome_of_volumes there o
-  volumes-same none h = refl
-  volumes-same (some vs) h = go (list_volumes 1 vs) h
+  volumes-same None h = refl
+  volumes-same (Some vs) h = go (list_volumes 1 vs) h
     where
       go : (l : Listed) → is_wired (set_of_lines here l) ≡ false → outcome_of_lines here l ≡ outcome_of_lines there l
       go (listed ls) h = run-same ls (top nothing_yet 0) (λ _. nothing-wired) h
       go (no_lines v) h = refl
 
   volumes-read : (o : Option (List Volume)) (s : Set) → outcome_of_volumes here o ≡ accepted s → set_of_volumes here o ≡ s
-  volumes-read none s q = not-accepted q
-  volumes-read (some vs) s q = go (list_volumes 1 vs) q
+  volumes-read None s q = not-accepted q
+  volumes-read (Some vs) s q = go (list_volumes 1 vs) q
     where
       go : (l : Listed) → outcome_of_lines here l ≡ accepted s → set_of_lines here l ≡ s
       go (listed ls) q = whole-read here (top nothing_yet 0) ls s q
@@ -291,8 +291,8 @@ module _ (symbols one other : Digits) where
     wire-shown : (x : Wire) (u : List ℤ) → wire_values (view one) x u ≡ wire_values (view other) x u
     wire-shown x u =
         let v = wire_numbers range (length x.elements) (put_groups shelves x.groups (put_texts x.texts (put_slots wire_table x.own u))) in
-        let none : digits_of range ≡ digits 0 0 = ap digits_of z in
-        ap (λ (i : Digits). mark_unread one i wire_table v) none ∙ unread-same one other wire_table v later_rows ∙ ap (λ (i : Digits). mark_unread other i wire_table v) (sym none)
+        let None : digits_of range ≡ digits 0 0 = ap digits_of z in
+        ap (λ (i : Digits). mark_unread one i wire_table v) None ∙ unread-same one other wire_table v later_rows ∙ ap (λ (i : Digits). mark_unread other i wire_table v) (sym None)
 
     shown-same : (owner volume : ℕ) (f : Figure) → figure_records (view one) 0 owner volume f ≡ figure_records (view other) 0 owner volume f
     shown-same owner volume (plain n j v) = refl
@@ -326,26 +326,26 @@ module _ (symbols one other : Digits) where
 
 -- ── two classes of one number ──
 data Alike : Option Class → Option Class → Type 0 where
-  neither : Alike none none
-  each : (symbols one other : Digits) → Alike (some (with_wires symbols one)) (some (with_wires symbols other))
+  neither : Alike None None
+  each : (symbols one other : Digits) → Alike (Some (with_wires symbols one)) (Some (with_wires symbols other))
 
 alike : (class one other : ℕ) → is_wire_part one ≡ true → is_wire_part other ≡ true → Alike (class_of class one) (class_of class other)
 unfolding class_of
 alike class one other p q = rw (p, q) (go (is_symbol_part class))
   where
-    go : (b : Bool) → Alike (cond (b && true) (some (with_wires (digits_of class) (digits_of one))) none) (cond (b && true) (some (with_wires (digits_of class) (digits_of other))) none)
+    go : (b : Bool) → Alike (cond (b && true) (Some (with_wires (digits_of class) (digits_of one))) None) (cond (b && true) (Some (with_wires (digits_of class) (digits_of other))) None)
     go true = each (digits_of class) (digits_of one) (digits_of other)
     go false = neither
 
-at_same : {c c' : Option Class} → Alike c c' → (m : ℕ) (spool : List ℕ) → is_wired (set_at c m spool) ≡ false → outcome_at c (some m) spool ≡ outcome_at c' (some m) spool
+at_same : {c c' : Option Class} → Alike c c' → (m : ℕ) (spool : List ℕ) → is_wired (set_at c m spool) ≡ false → outcome_at c (Some m) spool ≡ outcome_at c' (Some m) spool
 unfolding outcome_of
 at_same neither m spool h = refl
-at_same (each symbols one other) m spool h = volumes-same symbols one other (some m) (volumes_of spool) h
+at_same (each symbols one other) m spool h = volumes-same symbols one other (Some m) (volumes_of spool) h
 
-read_at : {c c' : Option Class} → Alike c c' → (m : ℕ) (spool : List ℕ) (s : Set) → outcome_at c (some m) spool ≡ accepted s → set_at c m spool ≡ s
+read_at : {c c' : Option Class} → Alike c c' → (m : ℕ) (spool : List ℕ) (s : Set) → outcome_at c (Some m) spool ≡ accepted s → set_at c m spool ≡ s
 unfolding outcome_of
 read_at neither m spool s q = not-accepted q
-read_at (each symbols one other) m spool s q = volumes-read symbols one other (some m) (volumes_of spool) s q
+read_at (each symbols one other) m spool s q = volumes-read symbols one other (Some m) (volumes_of spool) s q
 
 taken-same : {c c' : Option Class} → Alike c c' → (o : Outcome) → ((s : Set) → o ≡ accepted s → is_wired s ≡ false) → records_in (class_or c) o ≡ records_in (class_or c') o
 taken-same neither o h = refl

@@ -1,8 +1,8 @@
 -- The LAYER blocks of a volume written and read again.
+use Rattle.std.specs.Prelude.{Some}
 use Prim.Native.Nat.{ℕ}
 use mathlib.Core.Bool.{true, false, not, Bool}
 use mathlib.Core.List.{List, [], ◌∷◌, ◌++◌, map, append-nil, append_assoc}
-use mathlib.Core.Option.{some}
 use mathlib.Core.Path.{◌≡◌, refl, sym, ◌∙◌, ap, subst₂}
 use lib.ListN.{get_or}
 use Rattle.rules.specs.Base.{bytes, is_nil, flat, has_number, index_of}
@@ -33,7 +33,7 @@ id-filled : (id : List ℕ) → is_layer_id id ≡ true → is_nil id ≡ false
 id-filled [] e = clash e refl
 id-filled (b ∷ id) e = refl
 
-layer-line : (next : List ℕ) (S : Set) (m : ℕ) (id : List ℕ) → is_layer_id id ≡ true → index_of id (known_of S).layers ≡ some m → not (has_number m (used_in S.now)) ≡ true
+layer-line : (next : List ℕ) (S : Set) (m : ℕ) (id : List ℕ) → is_layer_id id ≡ true → index_of id (known_of S).layers ≡ Some m → not (has_number m (used_in S.now)) ≡ true
     → step_in plain_env (line_for next false (bytes "LAYER=" ++ open_line id)) (elements S) ≡ got (figures S (in_layer m) [])
 unfolding element_table
 layer-line next S m id e i new =

@@ -1,8 +1,8 @@
 -- DRAWING_FORMAT with its layers, written and read again.
+use Rattle.std.specs.Prelude.{Some}
 use Prim.Native.Nat.{ℕ, ◌+◌, ◌≤◌}
 use mathlib.Core.Bool.{Bool, true, false, not}
 use mathlib.Core.List.{List, [], ◌∷◌, ◌++◌, map, append-nil, append_assoc}
-use mathlib.Core.Option.{some}
 use mathlib.Core.Path.{◌≡◌, refl}
 use native.Mathlib.Omega.{arith}
 use lib.Dec.{ltb}
@@ -77,9 +77,9 @@ module _ (next : List ℕ) (k : Known) (S : Set) (n : ℕ) (d : Drawing) (g : Go
   in_drawing i rest = show_layers k d.layers rest
 
   enters-drawing : (i : ℕ) (r : Rule) (v : Value) → Row drawing_table i r → Always range r v → (u : Slots) → Free u i → opens_block r.holds v ≡ false
-      → Reads next (so u) (show_value k r v in_drawing) (so (set u i (some (bare_value v))))
+      → Reads next (so u) (show_value k r v in_drawing) (so (set u i (Some (bare_value v))))
   enters-drawing i r v w h u f o =
-      entered next k in_drawing r v (so u) (so (set u i (some (bare_value v)))) o
+      entered next k in_drawing r v (so u) (so (set u i (Some (bare_value v)))) o
       (rw (
         line_any r (row-all (λ r. nameless r.holds) w (sound-plain drawing_table drawing-sound)) k (known_of S) v,
         act-entry (known_of S) range drawing_table i r v w (h (known_of S)) (sound-differ drawing_table drawing-sound) (rows_there u) (free-mark u i f) o,
@@ -87,9 +87,9 @@ module _ (next : List ℕ) (k : Known) (S : Set) (n : ℕ) (d : Drawing) (g : Go
       ))
 
   opens-layers : (r : Rule) (v : Value) → Row drawing_table 7 r → Always range r v → (u : Slots) → Free u 7 → opens_block r.holds v ≡ true
-      → Reads next (so u) (show_value k r v in_drawing) (so (set u 7 (some (bare_value v))))
+      → Reads next (so u) (show_value k r v in_drawing) (so (set u 7 (Some (bare_value v))))
   opens-layers r v w h u f o =
-      let x = set u 7 (some (bare_value v)) in
+      let x = set u 7 (Some (bare_value v)) in
       rw (unfilled drawing_table u 7 f, filled w u f v o)
       (opened next k in_drawing r v (drawing (retaken n S) (drawing_of u [])) (layer_names (retaken n S) (drawing_of x [])) (drawing (retaken (taken_layers n d.layers) S) (drawing_of x (map bare_layer d.layers))) o
       (rw (
@@ -99,8 +99,8 @@ module _ (next : List ℕ) (k : Known) (S : Set) (n : ℕ) (d : Drawing) (g : Go
       (read-layers next k S x n [] d.layers g.layers (let m = leb-true (length d.layers) most_layers g.most in omega arith) g.differ
       and one_line next (bytes "}") (layer_names (retaken (taken_layers n d.layers) S) (drawing_of x (map bare_layer d.layers))) (drawing (retaken (taken_layers n d.layers) S) (drawing_of x (map bare_layer d.layers))) shut))
     where
-      shut : step_in plain_env (line_for next false (bytes "}")) (layer_names (retaken (taken_layers n d.layers) S) (drawing_of (set u 7 (some (bare_value v))) (map bare_layer d.layers)))
-          ≡ got (drawing (retaken (taken_layers n d.layers) S) (drawing_of (set u 7 (some (bare_value v))) (map bare_layer d.layers)))
+      shut : step_in plain_env (line_for next false (bytes "}")) (layer_names (retaken (taken_layers n d.layers) S) (drawing_of (set u 7 (Some (bare_value v))) (map bare_layer d.layers)))
+          ≡ got (drawing (retaken (taken_layers n d.layers) S) (drawing_of (set u 7 (Some (bare_value v))) (map bare_layer d.layers)))
       shut = rw close-form
 
   takes-drawing : Takes next k in_drawing (Always range) so drawing_table d.own

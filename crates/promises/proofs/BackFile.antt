@@ -1,8 +1,8 @@
 -- FILE_FORMAT and DRAWING_FORMAT, written and read again.
+use Rattle.std.specs.Prelude.{Option, Some, None}
 use Prim.Native.Nat.{ℕ, suc}
 use mathlib.Core.Bool.{Bool, true, false, cond, ◌&&◌}
 use mathlib.Core.List.{List, [], ◌∷◌}
-use mathlib.Core.Option.{Option, none, some}
 use mathlib.Core.Path.{◌≡◌, refl, sym, ◌∙◌, ap, subst}
 use native.Mathlib.Omega.{arith}
 use lib.Dec.{eqb}
@@ -48,11 +48,11 @@ module _ (next : List ℕ) (k : Known) (S : Set) (t : List Rule) (p : ℕ) (H : 
         at u,
         line_any r (row-all (λ r. nameless r.holds) w plain) k (known_of S) v,
         act-entry (known_of S) none0 t i r v w (g (known_of S)) keys (rows_there u) (free-mark u i f) o,
-        put u (set u i (some (bare_value v))) (still w u f v o),
+        put u (set u i (Some (bare_value v))) (still w u f v o),
       )
 
   opens-file : (i : ℕ) (r : Rule) (v : Value) → Row t i r → Always none0 r v → (u : Slots) → Free u i → opens_block r.holds v ≡ true
-      → step_in plain_env (line_for next false (line_of k r v)) (file S 0 (H u) p) ≡ got (file S 0 (set (H u) p (set u i (some (bare_value v)))) (inner_of r.holds))
+      → step_in plain_env (line_for next false (line_of k r v)) (file S 0 (H u) p) ≡ got (file S 0 (set (H u) p (set u i (Some (bare_value v)))) (inner_of r.holds))
   opens-file i r v w g u f o =
       rw (
         here-is,
@@ -103,8 +103,8 @@ module _ (next : List ℕ) (k : Known) (S : Set) (first : is_first S ≡ true) (
     (own-good : Closed (Always none0) none0 file_table own)
     (range-good : Closed (Always none0) none0 range_table range)
     (base-good : Closed (Always none0) none0 base_table base)
-    (elec-good : GoodPart (is_one (get_or range 2 none)) (Always none0) none0 elec_table elec)
-    (sym-good : GoodPart (is_one (get_or range 5 none)) (Always none0) none0 sym_table sym') where
+    (elec-good : GoodPart (is_one (get_or range 2 None)) (Always none0) none0 elec_table elec)
+    (sym-good : GoodPart (is_one (get_or range 5 None)) (Always none0) none0 sym_table sym') where
   abbrev range_held : Slots → Slots → Held
   range_held a u =
       a ∷ u ∷ inner_slots (opens_at range_table u 0) base_table base ∷ inner_slots (opens_at range_table u 2) elec_table elec ∷ inner_slots (opens_at range_table u 5) sym_table sym' ∷ []
@@ -135,43 +135,43 @@ module _ (next : List ℕ) (k : Known) (S : Set) (first : is_first S ≡ true) (
         (λ u x e. rw (e 0, e 2, e 5))
 
     opens-range : (i : ℕ) (r : Rule) (v : Value) → Row range_table i r → Always none0 r v → (u : Slots) → Free u i → opens_block r.holds v ≡ true
-        → step_in plain_env (line_for next false (line_of k r v)) (inside u) ≡ got (file S 0 (set (range_held a u) 1 (set u i (some (bare_value v)))) (inner_of r.holds))
+        → step_in plain_env (line_for next false (line_of k r v)) (inside u) ≡ got (file S 0 (set (range_held a u) 1 (set u i (Some (bare_value v)))) (inner_of r.holds))
     opens-range =
         opens-file next k S range_table 1 (range_held a) (table_at 1 range_table refl) (sound-differ range_table file-sound.1) (sound-plain range_table file-sound.1) (λ u. refl)
 
     module _ (r : Rule) (v : Value) (h : Always none0 r v) (u : Slots) (o : opens_block r.holds v ≡ true) where
       abbrev then_at : ℕ → Slots
-      then_at i = set u i (some (bare_value v))
+      then_at i = set u i (Some (bare_value v))
 
       takes-base : Row range_table 0 r → Free u 0 → inner_of r.holds ≡ 2 → Reads next (inside u) (show_value k r v in_range) (inside (then_at 0))
       takes-base w f m =
           opened next k in_range r v (inside u) (file S 0 (set (range_held a u) 1 (then_at 0)) (inner_of r.holds)) (inside (then_at 0)) o (opens-range 0 r v w h u f o)
-          (rw (m, unfilled range_table u 0 f, filled w u f v o, unmoved range_table u 0 2 (some (bare_value v)) (λ q. omega arith), unmoved range_table u 0 5 (some (bare_value v)) (λ q. omega arith))
+          (rw (m, unfilled range_table u 0 f, filled w u f v o, unmoved range_table u 0 2 (Some (bare_value v)) (λ q. omega arith), unmoved range_table u 0 5 (Some (bare_value v)) (λ q. omega arith))
           (read-inner base_table 1 (λ z. a ∷ then_at 0 ∷ z ∷ inner_slots (opens_at range_table u 2) elec_table elec ∷ inner_slots (opens_at range_table u 5) sym_table sym' ∷ []) refl
           file-sound.2 file-calm.0 (λ z. refl) (λ z y. refl) base base-good))
 
       takes-elec : Row range_table 2 r → Free u 2 → inner_of r.holds ≡ 3 → Closed (Always none0) none0 elec_table elec → Reads next (inside u) (show_value k r v in_range) (inside (then_at 2))
       takes-elec w f m c =
           opened next k in_range r v (inside u) (file S 0 (set (range_held a u) 1 (then_at 2)) (inner_of r.holds)) (inside (then_at 2)) o (opens-range 2 r v w h u f o)
-          (rw (m, unfilled range_table u 2 f, filled w u f v o, unmoved range_table u 2 0 (some (bare_value v)) (λ q. omega arith), unmoved range_table u 2 5 (some (bare_value v)) (λ q. omega arith))
+          (rw (m, unfilled range_table u 2 f, filled w u f v o, unmoved range_table u 2 0 (Some (bare_value v)) (λ q. omega arith), unmoved range_table u 2 5 (Some (bare_value v)) (λ q. omega arith))
           (read-inner elec_table 2 (λ z. a ∷ then_at 2 ∷ inner_slots (opens_at range_table u 0) base_table base ∷ z ∷ inner_slots (opens_at range_table u 5) sym_table sym' ∷ []) refl
           file-sound.3 file-calm.1 (λ z. refl) (λ z y. refl) elec c))
 
       takes-sym : Row range_table 5 r → Free u 5 → inner_of r.holds ≡ 4 → Closed (Always none0) none0 sym_table sym' → Reads next (inside u) (show_value k r v in_range) (inside (then_at 5))
       takes-sym w f m c =
           opened next k in_range r v (inside u) (file S 0 (set (range_held a u) 1 (then_at 5)) (inner_of r.holds)) (inside (then_at 5)) o (opens-range 5 r v w h u f o)
-          (rw (m, unfilled range_table u 5 f, filled w u f v o, unmoved range_table u 5 0 (some (bare_value v)) (λ q. omega arith), unmoved range_table u 5 2 (some (bare_value v)) (λ q. omega arith))
+          (rw (m, unfilled range_table u 5 f, filled w u f v o, unmoved range_table u 5 0 (Some (bare_value v)) (λ q. omega arith), unmoved range_table u 5 2 (Some (bare_value v)) (λ q. omega arith))
           (read-inner sym_table 3 (λ z. a ∷ then_at 5 ∷ inner_slots (opens_at range_table u 0) base_table base ∷ inner_slots (opens_at range_table u 2) elec_table elec ∷ z ∷ []) refl
           file-sound.4 file-calm.2 (λ z. refl) (λ z y. refl) sym' c))
 
     -- a part that was opened is closed
-    part-closed : (t : List Rule) (s : Slots) (x : Option Value) (v : Value) → x ≡ some v → eqb (amount_at v 0) 1 ≡ true → GoodPart (is_one x) (Always none0) none0 t s
+    part-closed : (t : List Rule) (s : Slots) (x : Option Value) (v : Value) → x ≡ Some v → eqb (amount_at v 0) 1 ≡ true → GoodPart (is_one x) (Always none0) none0 t s
         → Closed (Always none0) none0 t s
     part-closed t s x v e o g = rw (e, o) at g
 
     enters-one : (i : ℕ) (r : Rule) (v : Value) → Row range_table i r → Always none0 r v → (u : Slots) → Free u i → opens_block r.holds v ≡ false
-        → Reads next (inside u) (show_value k r v in_range) (inside (set u i (some (bare_value v))))
-    enters-one i r v w h u f o = entered next k in_range r v (inside u) (inside (set u i (some (bare_value v)))) o (enters-range i r v w h u f o)
+        → Reads next (inside u) (show_value k r v in_range) (inside (set u i (Some (bare_value v))))
+    enters-one i r v w h u f o = entered next k in_range r v (inside u) (inside (set u i (Some (bare_value v)))) o (enters-range i r v w h u f o)
 
     takes-range : Takes next k in_range (Always none0) inside range_table range
     unfolding range_table
@@ -179,15 +179,15 @@ module _ (next : List ℕ) (k : Known) (S : Set) (first : is_first S ≡ true) (
     takes-range i r v (there here) e h u f = enters-one i r v (there here) h u f refl
     takes-range i r v (there (there here)) e h u f = go (eqb (amount_at v 0) 1) refl
       where
-        go : (b : Bool) → eqb (amount_at v 0) 1 ≡ b → Reads next (inside u) (show_value k r v in_range) (inside (set u 2 (some (bare_value v))))
-        go true o = takes-elec r v h u o (there (there here)) f refl (part-closed elec_table elec (get_or range 2 none) v e o elec-good)
+        go : (b : Bool) → eqb (amount_at v 0) 1 ≡ b → Reads next (inside u) (show_value k r v in_range) (inside (set u 2 (Some (bare_value v))))
+        go true o = takes-elec r v h u o (there (there here)) f refl (part-closed elec_table elec (get_or range 2 None) v e o elec-good)
         go false o = enters-one i r v (there (there here)) h u f o
     takes-range i r v (there (there (there here))) e h u f = enters-one i r v (there (there (there here))) h u f refl
     takes-range i r v (there (there (there (there here)))) e h u f = enters-one i r v (there (there (there (there here)))) h u f refl
     takes-range i r v (there (there (there (there (there here))))) e h u f = go (eqb (amount_at v 0) 1) refl
       where
-        go : (b : Bool) → eqb (amount_at v 0) 1 ≡ b → Reads next (inside u) (show_value k r v in_range) (inside (set u 5 (some (bare_value v))))
-        go true o = takes-sym r v h u o (there (there (there (there (there here))))) f refl (part-closed sym_table sym' (get_or range 5 none) v e o sym-good)
+        go : (b : Bool) → eqb (amount_at v 0) 1 ≡ b → Reads next (inside u) (show_value k r v in_range) (inside (set u 5 (Some (bare_value v))))
+        go true o = takes-sym r v h u o (there (there (there (there (there here))))) f refl (part-closed sym_table sym' (get_or range 5 None) v e o sym-good)
         go false o = enters-one i r v (there (there (there (there (there here))))) h u f o
     takes-range _ r v (there (there (there (there (there (there w)))))) e h u f = elim w [ ]
 
@@ -202,8 +202,8 @@ module _ (next : List ℕ) (k : Known) (S : Set) (first : is_first S ≡ true) (
         range-good.all))
       where
         is_one_lem : (n : ℕ) (o : Option Value) → opens_in (either n) o ≡ is_one o
-        is_one_lem n none = refl
-        is_one_lem n (some v) = refl
+        is_one_lem n None = refl
+        is_one_lem n (Some v) = refl
 
         at-end : range_held a (bare_slots range) ≡ a ∷ bare_slots range ∷ bare_slots base ∷ bare_slots elec ∷ bare_slots sym' ∷ []
         at-end =
@@ -211,10 +211,10 @@ module _ (next : List ℕ) (k : Known) (S : Set) (first : is_first S ≡ true) (
               opens-needed (Always none0) none0 {t = range_table} here range range-good.good range-good.all refl (λ v. refl),
               opens-end (Always none0) {t = range_table} (there (there here)) range range-good.good,
               opens-end (Always none0) {t = range_table} (there (there (there (there (there here))))) range range-good.good,
-              is_one_lem 3 (get_or range 2 none),
-              is_one_lem 4 (get_or range 5 none),
-              inner-whole (is_one (get_or range 2 none)) (Always none0) none0 elec_table elec elec-good,
-              inner-whole (is_one (get_or range 5 none)) (Always none0) none0 sym_table sym' sym-good,
+              is_one_lem 3 (get_or range 2 None),
+              is_one_lem 4 (get_or range 5 None),
+              inner-whole (is_one (get_or range 2 None)) (Always none0) none0 elec_table elec elec-good,
+              inner-whole (is_one (get_or range 5 None)) (Always none0) none0 sym_table sym' sym-good,
             )
 
   -- FILE_FORMAT's own rows: what stands behind `range`
@@ -234,13 +234,13 @@ module _ (next : List ℕ) (k : Known) (S : Set) (first : is_first S ≡ true) (
   takes-own : Takes next k in_file (Always none0) outside file_table own
   unfolding file_table
   takes-own i r v here e h u f =
-      let x = set u 0 (some (bare_value v)) in
+      let x = set u 0 (Some (bare_value v)) in
       opened next k in_file r v (outside u) (file S 0 (set (own_held u) 0 x) 1) (outside x) refl
       (opens-file next k S file_table 0 own_held (table_at 0 file_table refl) (sound-differ file_table file-sound.0) (sound-plain file_table file-sound.0) (λ u. refl) 0 r v here h u f refl)
       (rw (unfilled file_table u 0 f, filled {t = file_table} here u f v refl) (read-range x))
   takes-own i r v (there w) e h u f =
       let o = calm-row w refl v in
-      entered next k in_file r v (outside u) (outside (set u i (some (bare_value v)))) o
+      entered next k in_file r v (outside u) (outside (set u i (Some (bare_value v)))) o
       (enters-file next k S file_table 0 own_held (table_at 0 file_table refl) (sound-differ file_table file-sound.0) (sound-plain file_table file-sound.0) (λ u. refl) (λ u x e. rw (e 0))
       i r v (there w) h u f o)
 

@@ -1,8 +1,8 @@
 -- Placed symbols written and read again, and with them all figures of a layer.
+use Rattle.std.specs.Prelude.{Option, Some, None}
 use Prim.Native.Nat.{ℕ, ◌+◌}
 use mathlib.Core.Bool.{Bool, true, false, cond, ◌&&◌, not}
 use mathlib.Core.List.{List, [], ◌∷◌, ◌++◌, map, append-nil, append_assoc}
-use mathlib.Core.Option.{Option, none, some}
 use mathlib.Core.Path.{◌≡◌, refl, sym, ◌∙◌, ap, subst}
 use lib.Dec.{leb}
 use lib.ListN.{length, get_or, set}
@@ -122,7 +122,7 @@ placed-sound = (refl, refl, refl)
 
 module _ (next : List ℕ) (S : Set) (n m : ℕ) (fs : List Figure) (own inner : Slots)
     (own-good : Closed (GoodRow (known_of S) (range_of S)) (both full_class.symbols (range_of S)) placed_table own)
-    (inner-good : GoodPart (is_some (get_or own 1 none)) (Always none0) none0 (text_table true 16 24) inner)
+    (inner-good : GoodPart (is_some (get_or own 1 None)) (Always none0) none0 (text_table true 16 24) inner)
     (new : none_of (figure_serial (placed n (own ∷ inner ∷ []))) (serials_in S ++ flat (map figure_serial fs)) ≡ true) where
   abbrev letters_table : List Rule
   letters_table = text_table true 16 24
@@ -143,15 +143,15 @@ module _ (next : List ℕ) (S : Set) (n m : ℕ) (fs : List Figure) (own inner :
   in_placed = show_inner (known_of S) placed_tables (own ∷ inner ∷ []) (show_inner (known_of S) placed_tables (own ∷ inner ∷ []) no_inner)
 
   enters-placed : (i : ℕ) (r : Rule) (v : Value) → Row placed_table i r → GoodRow (known_of S) (range_of S) r v → (u : Slots) → Free u i → opens_block r.holds v ≡ false
-      → new_serial (retaken n S) fs (bare_value v) ≡ true → Reads next (own-so u) (show_value (known_of S) r v in_placed) (own-so (set u i (some (bare_value v))))
+      → new_serial (retaken n S) fs (bare_value v) ≡ true → Reads next (own-so u) (show_value (known_of S) r v in_placed) (own-so (set u i (Some (bare_value v))))
   enters-placed i r v w g u f o z =
-      entered next (known_of S) in_placed r v (own-so u) (own-so (set u i (some (bare_value v)))) o
+      entered next (known_of S) in_placed r v (own-so u) (own-so (set u i (Some (bare_value v)))) o
       (rw (g.form 0, row-find w placed-sound.0, row-all (λ r. reaches full_class.symbols r.least) w placed-sound.1, free-mark u i f, g.again i, o, z, still w u f v o 1))
 
   opens-placed : (r : Rule) (v : Value) → Row placed_table 1 r → GoodRow (known_of S) (range_of S) r v → (u : Slots) → Free u 1 → opens_block r.holds v ≡ true → inner_of r.holds ≡ 1
-      → Closed (Always none0) none0 letters_table inner → Reads next (own-so u) (show_value (known_of S) r v in_placed) (own-so (set u 1 (some (bare_value v))))
+      → Closed (Always none0) none0 letters_table inner → Reads next (own-so u) (show_value (known_of S) r v in_placed) (own-so (set u 1 (Some (bare_value v))))
   opens-placed r v w g u f o q c =
-      let x = set u 1 (some (bare_value v)) in
+      let x = set u 1 (Some (bare_value v)) in
       rw (unfilled placed_table u 1 f, filled w u f v o)
       (opened next (known_of S) in_placed r v (placing (retaken n S) m fs 0 (symbol_block (u ∷ blank letters_table ∷ [])) 0) (placing (retaken n S) m fs 0 (symbol_block (x ∷ blank letters_table ∷ [])) (inner_of r.holds))
       (placing (retaken n S) m fs 0 (symbol_block (x ∷ bare_slots inner ∷ [])) 0) o
@@ -190,13 +190,13 @@ module _ (next : List ℕ) (S : Set) (n m : ℕ) (fs : List Figure) (own inner :
   placed_end =
       rw (
         opens-end (GoodRow (known_of S) (range_of S)) {t = placed_table} (there here) own own-good.good,
-        is-some (get_or own 1 none),
-        inner-whole (is_some (get_or own 1 none)) (Always none0) none0 letters_table inner inner-good,
+        is-some (get_or own 1 None),
+        inner-whole (is_some (get_or own 1 None)) (Always none0) none0 letters_table inner inner-good,
       )
     where
       is-some : (o : Option Value) → opens_in (opens 1) o ≡ is_some o
-      is-some none = refl
-      is-some (some v) = refl
+      is-some None = refl
+      is-some (Some v) = refl
 
   read-placed : Reads next (placing (retaken n S) m fs 0 (symbol_block (blank_held placed_tables)) 0) (λ ls. show_held (known_of S) placed_tables (own ∷ inner ∷ []) (bytes "}" ∷ ls))
       (figures (retaken n S) (in_layer m) (fs ++ placed 0 (bare_held (own ∷ inner ∷ [])) ∷ []))
@@ -233,14 +233,14 @@ fresh-none [] seen e = refl
 fresh-none (a ∷ s) seen e = e
 
 own_fresh : (o : Option Value) (seen : List ℕ) → fresh_numbers seen (own_number o) ≡ true → none_of (own_number o) seen ≡ true
-own_fresh none seen e = refl
-own_fresh (some v) seen e = e
+own_fresh None seen e = refl
+own_fresh (Some v) seen e = e
 
 figure-fresh : (f : Figure) (seen : List ℕ) → fresh_numbers seen (figure_serial f) ≡ true → none_of (figure_serial f) seen ≡ true
 figure-fresh (plain l j v) seen e = refl
 figure-fresh (chain l ps) seen e = refl
 figure-fresh (lettering l o) seen e = refl
-figure-fresh (wired l w) seen e = own_fresh (get_or w.own wire_serial_row none) seen e
+figure-fresh (wired l w) seen e = own_fresh (get_or w.own wire_serial_row None) seen e
 figure-fresh (passed l) seen e = refl
 figure-fresh (placed l h) seen e = fresh-none (serials_of (slot_value (held "serial" placed_table (part_of h 0)))) seen e
 

@@ -1,8 +1,8 @@
 -- Lines written and read again, one after the other: the lines of a volume, what a text leads to, and the slots of a block.
+use Rattle.std.specs.Prelude.{Option, Some, None}
 use Prim.Native.Nat.{ℕ, zero, suc}
 use mathlib.Core.Bool.{Bool, true, false, cond, ◌&&◌, ◌||◌, not}
 use mathlib.Core.List.{List, [], ◌∷◌}
-use mathlib.Core.Option.{Option, none, some}
 use mathlib.Core.Path.{◌≡◌, refl, sym, ◌∙◌, ap, subst}
 use lib.ListN.{get_or, set}
 use borrow.Author.Tests.{not-true}
@@ -78,7 +78,7 @@ infixr 20 ◌and◌
 -- a row that is there and holds nothing yet
 abbrev pub Free : Slots → ℕ → Type 0
 Free [] i = ⊥
-Free (o ∷ u) zero = o ≡ none
+Free (o ∷ u) zero = o ≡ None
 Free (o ∷ u) (suc i) = Free u i
 
 pub free-mark : (u : Slots) (i : ℕ) → Free u i → get_or (rows_there u) i false ≡ false
@@ -89,19 +89,19 @@ free-mark (o ∷ u) (suc i) f = free-mark u i f
 -- each row that is written, with its inner lines, is read and entered
 abbrev pub Takes : List ℕ → Known → (ℕ → Text → Text) → (Rule → Value → Type 0) → (Slots → State) → List Rule → Slots → Type 0
 Takes next k inner P K t s =
-    (i : ℕ) (r : Rule) (v : Value) → Row t i r → get_or s i none ≡ some v → P r v → (u : Slots) → Free u i
-    → Reads next (K u) (show_value k r v inner) (K (set u i (some (bare_value v))))
+    (i : ℕ) (r : Rule) (v : Value) → Row t i r → get_or s i None ≡ Some v → P r v → (u : Slots) → Free u i
+    → Reads next (K u) (show_value k r v inner) (K (set u i (Some (bare_value v))))
 
 pub read-slots : (next : List ℕ) (k : Known) (inner : ℕ → Text → Text) (P : Rule → Value → Type 0) (K : Slots → State) (t : List Rule) (s : Slots)
     → GoodSlots P t s → Takes next k inner P K t s → Reads next (K (blank t)) (show_slots k t s inner) (K (bare_slots s))
 read-slots next k inner P K [] [] g a = no_lines next (K [])
 read-slots next k inner P K [] (o ∷ s) g a = absurd g
 read-slots next k inner P K (r ∷ t) [] g a = absurd g
-read-slots next k inner P K (r ∷ t) (none ∷ s) g a =
-    read-slots next k inner P (λ u. K (none ∷ u)) t s g (λ i q v w e p u f. a (suc i) q v (there w) e p (none ∷ u) f)
-read-slots next k inner P K (r ∷ t) (some v ∷ s) g a =
-    a 0 r v here refl g.0 (none ∷ blank t) refl
-    and read-slots next k inner P (λ u. K (some (bare_value v) ∷ u)) t s g.1 (λ i q w x e p u f. a (suc i) q w (there x) e p (some (bare_value v) ∷ u) f)
+read-slots next k inner P K (r ∷ t) (None ∷ s) g a =
+    read-slots next k inner P (λ u. K (None ∷ u)) t s g (λ i q v w e p u f. a (suc i) q v (there w) e p (None ∷ u) f)
+read-slots next k inner P K (r ∷ t) (Some v ∷ s) g a =
+    a 0 r v here refl g.0 (None ∷ blank t) refl
+    and read-slots next k inner P (λ u. K (Some (bare_value v) ∷ u)) t s g.1 (λ i q w x e p u f. a (suc i) q w (there x) e p (Some (bare_value v) ∷ u) f)
 
 -- ── what the line of a row does ──
 module _ (k : Known) (d : Digits) (t : List Rule) (i : ℕ) (r : Rule) (v : Value) (w : Row t i r) (g : GoodRow k d r v) where
@@ -118,8 +118,8 @@ module _ (k : Known) (d : Digits) (t : List Rule) (i : ℕ) (r : Rule) (v : Valu
 
 -- ── rows that open inner blocks ──
 abbrev pub opens_in : Kind → Option Value → Bool
-opens_in d none = false
-opens_in d (some v) = opens_block d v
+opens_in d None = false
+opens_in d (Some v) = opens_block d v
 
 -- is the inner block of row j open or behind us?
 abbrev pub opens_at : List Rule → Slots → ℕ → Bool
@@ -148,7 +148,7 @@ opens-bare (either i) (linked n ps) = refl
 
 -- a row that opens nothing changes none of this
 pub still : {t : List Rule} {i : ℕ} {r : Rule} → Row t i r → (u : Slots) → Free u i → (v : Value) → opens_block r.holds v ≡ false → (j : ℕ)
-    → opens_at t (set u i (some (bare_value v))) j ≡ opens_at t u j
+    → opens_at t (set u i (Some (bare_value v))) j ≡ opens_at t u j
 still here [] f v e j = refl
 still (here {r = r}) (o ∷ u) f v e zero = opens-bare r.holds v ∙ e ∙ sym (ap (opens_in r.holds) f)
 still here (o ∷ u) f v e (suc j) = refl
@@ -158,7 +158,7 @@ still (there w) (o ∷ u) f v e (suc j) = still w u f v e j
 
 -- the one that does opens its own
 pub filled : {t : List Rule} {i : ℕ} {r : Rule} → Row t i r → (u : Slots) → Free u i → (v : Value) → opens_block r.holds v ≡ true
-    → opens_at t (set u i (some (bare_value v))) i ≡ true
+    → opens_at t (set u i (Some (bare_value v))) i ≡ true
 filled here [] f v e = absurd f
 filled (here {r = r}) (o ∷ u) f v e = opens-bare r.holds v ∙ e
 filled (there w) [] f v e = absurd f
@@ -180,13 +180,13 @@ unmoved (r ∷ t) (o ∷ u) (suc i) (suc j) x n = unmoved t u i j x (λ e. n (ap
 
 -- at the end: as what was written says
 pub opens-end : (P : Rule → Value → Type 0) {t : List Rule} {i : ℕ} {r : Rule} → Row t i r → (s : Slots) → GoodSlots P t s
-    → opens_at t (bare_slots s) i ≡ opens_in r.holds (get_or s i none)
+    → opens_at t (bare_slots s) i ≡ opens_in r.holds (get_or s i None)
 opens-end P here [] g = refl
-opens-end P here (none ∷ s) g = refl
-opens-end P (here {r = r}) (some v ∷ s) g = opens-bare r.holds v
+opens-end P here (None ∷ s) g = refl
+opens-end P (here {r = r}) (Some v ∷ s) g = opens-bare r.holds v
 opens-end P (there w) [] g = refl
-opens-end P (there w) (none ∷ s) g = opens-end P w s g
-opens-end P (there w) (some v ∷ s) g = opens-end P w s g.1
+opens-end P (there w) (None ∷ s) g = opens-end P w s g
+opens-end P (there w) (Some v ∷ s) g = opens-end P w s g.1
 
 -- ── tables no row of which opens anything ──
 abbrev pub may_open : Kind → Bool
@@ -229,7 +229,7 @@ calm-row {r = r} w e v = calm-kind r.holds v (not-true (may_open r.holds) (row-a
 abbrev pub Enters : List ℕ → Known → (Rule → Value → Type 0) → (Slots → State) → List Rule → Type 0
 Enters next k P K t =
     (i : ℕ) (r : Rule) (v : Value) → Row t i r → P r v → (u : Slots) → Free u i → opens_block r.holds v ≡ false
-    → step_in plain_env (line_for next false (line_of k r v)) (K u) ≡ got (K (set u i (some (bare_value v))))
+    → step_in plain_env (line_for next false (line_of k r v)) (K u) ≡ got (K (set u i (Some (bare_value v))))
 
 pub entered : (next : List ℕ) (k : Known) (inner : ℕ → Text → Text) (r : Rule) (v : Value) (st st' : State) → opens_block r.holds v ≡ false
     → step_in plain_env (line_for next false (line_of k r v)) st ≡ got st' → Reads next st (show_value k r v inner) st'
@@ -246,11 +246,11 @@ pub read-calm : (next : List ℕ) (k : Known) (inner : ℕ → Text → Text) (P
     → Enters next k P K t → GoodSlots P t s → Reads next (K (blank t)) (show_slots k t s inner) (K (bare_slots s))
 read-calm next k inner P K t s c a g =
     read-slots next k inner P K t s g
-    (λ i r v w e p u f. entered next k inner r v (K u) (K (set u i (some (bare_value v)))) (calm-row w c v) (a i r v w p u f (calm-row w c v)))
+    (λ i r v w e p u f. entered next k inner r v (K u) (K (set u i (Some (bare_value v)))) (calm-row w c v) (a i r v w p u f (calm-row w c v)))
 
 -- what a closed block must have is there
 needed : (P : Rule → Value → Type 0) (d : Digits) {t : List Rule} {i : ℕ} {r : Rule} → Row t i r → (s : Slots) → GoodSlots P t s → complete d t (rows_there s) ≡ true
-    → (r.must && reaches d r.least) ≡ true → is_some (get_or s i none) ≡ true
+    → (r.must && reaches d r.least) ≡ true → is_some (get_or s i None) ≡ true
 needed P d here [] g c e = absurd g
 needed P d (here {r = r}) (o ∷ s) g c e = go r.must (reaches d r.least) (is_some o) e (and_left (present d r (is_some o)) _ c)
   where
@@ -259,14 +259,14 @@ needed P d (here {r = r}) (o ∷ s) g c e = go r.must (reaches d r.least) (is_so
     go true false z e f = clash e refl
     go false b z e f = clash e refl
 needed P d (there w) [] g c e = absurd g
-needed P d (there {q = q} w) (none ∷ s) g c e = needed P d w s g (and_right (present d q false) _ c) e
-needed P d (there {q = q} w) (some v ∷ s) g c e = needed P d w s g.1 (and_right (present d q true) _ c) e
+needed P d (there {q = q} w) (None ∷ s) g c e = needed P d w s g (and_right (present d q false) _ c) e
+needed P d (there {q = q} w) (Some v ∷ s) g c e = needed P d w s g.1 (and_right (present d q true) _ c) e
 
 -- so the inner block of a row that always opens one has been opened
 pub opens-needed : (P : Rule → Value → Type 0) (d : Digits) {t : List Rule} {i : ℕ} {r : Rule} → Row t i r → (s : Slots) → GoodSlots P t s → complete d t (rows_there s) ≡ true
     → (r.must && reaches d r.least) ≡ true → ((v : Value) → opens_block r.holds v ≡ true) → opens_at t (bare_slots s) i ≡ true
-opens-needed P d {i = i} {r = r} w s g c e always = opens-end P w s g ∙ go (get_or s i none) (needed P d w s g c e)
+opens-needed P d {i = i} {r = r} w s g c e always = opens-end P w s g ∙ go (get_or s i None) (needed P d w s g c e)
   where
     go : (o : Option Value) → is_some o ≡ true → opens_in r.holds o ≡ true
-    go none z = clash z refl
-    go (some v) z = always v
+    go None z = clash z refl
+    go (Some v) z = always v

@@ -1,8 +1,8 @@
 -- SYMBOL_DEFINE written and read again.
+use Rattle.std.specs.Prelude.{Option, Some, None}
 use Prim.Native.Nat.{ℕ, ◌+◌}
 use mathlib.Core.Bool.{Bool, true, false, ◌&&◌, ◌||◌, not}
 use mathlib.Core.List.{List, [], ◌∷◌, ◌++◌, map, append-nil, append_assoc}
-use mathlib.Core.Option.{Option, none, some}
 use mathlib.Core.Path.{◌≡◌, refl, sym, ◌∙◌, ap, subst}
 use lib.Dec.{leb}
 use lib.ListN.{length, get_or, set}
@@ -73,7 +73,7 @@ close-hide next S y ps = rw close-form
 
 module _ (next : List ℕ) (k : Known) (S : Set) (Y : Symbol) (n : ℕ) (y : Symbol) (r : Rule) (v : Value) (g : Always (digits_of (define_range S)) r v) where
   abbrev having : ℕ → Symbol
-  having i = symbol_own (set y.own i (some (bare_value v))) y
+  having i = symbol_own (set y.own i (Some (bare_value v))) y
 
   abbrev in_symbol : ℕ → Text → Text
   in_symbol = symbol_inner k Y
@@ -109,7 +109,7 @@ module _ (next : List ℕ) (k : Known) (S : Set) (Y : Symbol) (n : ℕ) (y : Sym
       (close-figures next (retaken (taken_figures n Y.figures) S) (having 1) (map bare_figure Y.figures) (nil-map bare_figure Y.figures ∙ some'))))
 
   abbrev ordered : Symbol
-  ordered = symbol_order (is_none (get_or (having 2).own 1 none)) (having 2)
+  ordered = symbol_order (is_none (get_or (having 2).own 1 None)) (having 2)
 
   symbol-hide : Row symbol_table 2 r → get_or (rows_there y.own) 2 false ≡ false → opens_block r.holds v ≡ true → inner_of r.holds ≡ 2 → GoodPoints false Y.hidden → leb (length Y.hidden) most_points ≡ true
       → Reads next (symbol (retaken n S) y) (show_value k r v in_symbol) (symbol (retaken (taken_points n Y.hidden) S) (symbol_hidden (map bare_point Y.hidden) ordered))
@@ -124,22 +124,22 @@ module _ (next : List ℕ) (k : Known) (S : Set) (Y : Symbol) (n : ℕ) (y : Sym
 -- ── a symbol: name, `element`, `hide` in the order written, `wall` ──
 -- a slot that must be there, and what stands behind it
 take-needed : (P : Rule → Value → Type 0) (d : Digits) (r : Rule) (t : List Rule) (s : Slots) → GoodSlots P (r ∷ t) s → complete d (r ∷ t) (rows_there s) ≡ true → (r.must && reaches d r.least) ≡ true
-    → (v : Value) × (u : Slots) × (s ≡ some v ∷ u) × P r v × GoodSlots P t u × (complete d t (rows_there u) ≡ true)
+    → (v : Value) × (u : Slots) × (s ≡ Some v ∷ u) × P r v × GoodSlots P t u × (complete d t (rows_there u) ≡ true)
 take-needed P d r t [] g c e = absurd g
-take-needed P d r t (none ∷ s) g c e = absurd (go r.must (reaches d r.least) e (and_left (present d r false) _ c))
+take-needed P d r t (None ∷ s) g c e = absurd (go r.must (reaches d r.least) e (and_left (present d r false) _ c))
   where
     go : (a b : Bool) → (a && b) ≡ true → (not a || (not b || false)) ≡ true → ⊥
     go true true e f = clash f refl
     go true false e f = clash e refl
     go false b e f = clash e refl
-take-needed P d r t (some v ∷ s) g c e = (v, s, refl, g.0, g.1, and_right (present d r true) _ c)
+take-needed P d r t (Some v ∷ s) g c e = (v, s, refl, g.0, g.1, and_right (present d r true) _ c)
 
 take_last : (P : Rule → Value → Type 0) (r : Rule) (s : Slots) → GoodSlots P (r ∷ []) s → (o : Option Value) × (s ≡ o ∷ []) × InSlot P r o
 take_last P r [] g = absurd g
-take_last P r (none ∷ []) g = (none, refl, tt)
-take_last P r (none ∷ o ∷ s) g = absurd g
-take_last P r (some v ∷ []) g = (some v, refl, g.0)
-take_last P r (some v ∷ o ∷ s) g = absurd g.1
+take_last P r (None ∷ []) g = (None, refl, tt)
+take_last P r (None ∷ o ∷ s) g = absurd g
+take_last P r (Some v ∷ []) g = (Some v, refl, g.0)
+take_last P r (Some v ∷ o ∷ s) g = absurd g.1
 
 abbrev taken_inner : Bool → ℕ → List Figure → List Point → ℕ
 taken_inner false n fs ps = taken_points (taken_figures n fs) ps
@@ -168,41 +168,41 @@ module _ (next : List ℕ) (k : Known) (S : Set) (Y : Symbol) (n : ℕ) (shown :
   module _ (a b c : Value) (w : Option Value) (ga : Good (rule_of 0) a) (gb : Good (rule_of 1) b) (gc : Good (rule_of 2) c) (gw : InSlot Good (rule_of 3) w)
       (new : not (among (chars_of a) (known_of S).symbols) ≡ true) where
     abbrev va : Option Value
-    va = some (bare_value a)
+    va = Some (bare_value a)
 
     abbrev vb : Option Value
-    vb = some (bare_value b)
+    vb = Some (bare_value b)
 
     abbrev vc : Option Value
-    vc = some (bare_value c)
+    vc = Some (bare_value c)
 
-    read_name : Reads next (symbol (retaken n S) (symbol_of (blank symbol_table) [] [] false)) (show_value k (rule_of 0) a (symbol_inner k Y)) (symbol (retaken n S) (symbol_of (va ∷ none ∷ none ∷ none ∷ []) [] [] false))
+    read_name : Reads next (symbol (retaken n S) (symbol_of (blank symbol_table) [] [] false)) (show_value k (rule_of 0) a (symbol_inner k Y)) (symbol (retaken n S) (symbol_of (va ∷ None ∷ None ∷ None ∷ []) [] [] false))
     unfolding symbol_table
     read_name =
         symbol-entry next k S Y n (symbol_of (blank symbol_table) [] [] false) (rule_of 0) a ga 0 here refl refl
-        (new-name (symbol_of (va ∷ none ∷ none ∷ none ∷ []) [] [] false) (chars_of a) (chars-bare a) new)
+        (new-name (symbol_of (va ∷ None ∷ None ∷ None ∷ []) [] [] false) (chars_of a) (chars-bare a) new)
 
     read-wall : (m : ℕ) (w : Option Value) → InSlot Good (rule_of 3) w → (h : Bool)
-        → Reads next (symbol (retaken m S) (symbol_of (va ∷ vb ∷ vc ∷ none ∷ []) fs ps h)) (show_slot k (rule_of 3) w (symbol_inner k Y)) (symbol (retaken m S) (symbol_of (va ∷ vb ∷ vc ∷ bare_slots (w ∷ [])) fs ps h))
+        → Reads next (symbol (retaken m S) (symbol_of (va ∷ vb ∷ vc ∷ None ∷ []) fs ps h)) (show_slot k (rule_of 3) w (symbol_inner k Y)) (symbol (retaken m S) (symbol_of (va ∷ vb ∷ vc ∷ bare_slots (w ∷ [])) fs ps h))
     unfolding symbol_table
-    read-wall m none g h = no_lines next (symbol (retaken m S) (symbol_of (va ∷ vb ∷ vc ∷ none ∷ []) fs ps h))
-    read-wall m (some v) g h =
-        symbol-entry next k S Y m (symbol_of (va ∷ vb ∷ vc ∷ none ∷ []) fs ps h) (rule_of 3) v g 3 (there (there (there here))) refl refl
-        (new-name (symbol_of (va ∷ vb ∷ vc ∷ some (bare_value v) ∷ []) fs ps h) (chars_of a) (chars-bare a) new)
+    read-wall m None g h = no_lines next (symbol (retaken m S) (symbol_of (va ∷ vb ∷ vc ∷ None ∷ []) fs ps h))
+    read-wall m (Some v) g h =
+        symbol-entry next k S Y m (symbol_of (va ∷ vb ∷ vc ∷ None ∷ []) fs ps h) (rule_of 3) v g 3 (there (there (there here))) refl refl
+        (new-name (symbol_of (va ∷ vb ∷ vc ∷ Some (bare_value v) ∷ []) fs ps h) (chars_of a) (chars-bare a) new)
 
     read-symbol-slots : (b' : Bool)
-        → Reads next (symbol (retaken n S) (symbol_of (blank symbol_table) [] [] false)) (show_slots k (exchanged b' symbol_table) (exchanged b' (some a ∷ some b ∷ some c ∷ w ∷ [])) (symbol_inner k Y))
-        (symbol (retaken (taken_inner b' n Y.figures Y.hidden) S) (symbol_of (bare_slots (some a ∷ some b ∷ some c ∷ w ∷ [])) fs ps b'))
+        → Reads next (symbol (retaken n S) (symbol_of (blank symbol_table) [] [] false)) (show_slots k (exchanged b' symbol_table) (exchanged b' (Some a ∷ Some b ∷ Some c ∷ w ∷ [])) (symbol_inner k Y))
+        (symbol (retaken (taken_inner b' n Y.figures Y.hidden) S) (symbol_of (bare_slots (Some a ∷ Some b ∷ Some c ∷ w ∷ [])) fs ps b'))
     unfolding symbol_table
     read-symbol-slots false =
         read_name
-        and symbol-element next k S Y n (symbol_of (va ∷ none ∷ none ∷ none ∷ []) [] [] false) (rule_of 1) b gb (there here) refl refl refl shown some-shown
-        and symbol-hide next k S Y (taken_figures n Y.figures) (symbol_of (va ∷ vb ∷ none ∷ none ∷ []) fs [] false) (rule_of 2) c gc (there (there here)) refl refl refl hidden few
+        and symbol-element next k S Y n (symbol_of (va ∷ None ∷ None ∷ None ∷ []) [] [] false) (rule_of 1) b gb (there here) refl refl refl shown some-shown
+        and symbol-hide next k S Y (taken_figures n Y.figures) (symbol_of (va ∷ vb ∷ None ∷ None ∷ []) fs [] false) (rule_of 2) c gc (there (there here)) refl refl refl hidden few
         and read-wall (taken_points (taken_figures n Y.figures) Y.hidden) w gw false
     read-symbol-slots true =
         read_name
-        and symbol-hide next k S Y n (symbol_of (va ∷ none ∷ none ∷ none ∷ []) [] [] false) (rule_of 2) c gc (there (there here)) refl refl refl hidden few
-        and symbol-element next k S Y (taken_points n Y.hidden) (symbol_of (va ∷ none ∷ vc ∷ none ∷ []) [] ps true) (rule_of 1) b gb (there here) refl refl refl shown some-shown
+        and symbol-hide next k S Y n (symbol_of (va ∷ None ∷ None ∷ None ∷ []) [] [] false) (rule_of 2) c gc (there (there here)) refl refl refl hidden few
+        and symbol-element next k S Y (taken_points n Y.hidden) (symbol_of (va ∷ None ∷ vc ∷ None ∷ []) [] ps true) (rule_of 1) b gb (there here) refl refl refl shown some-shown
         and read-wall (taken_figures (taken_points n Y.hidden) Y.figures) w gw true
 
 -- the slots of a symbol: only `wall` may be missing
@@ -211,7 +211,7 @@ record SymbolSlots (P : Rule → Value → Type 0) (own : Slots) : Type 0 where
   element : Value
   hide : Value
   wall : Option Value
-  is : own ≡ some name ∷ some element ∷ some hide ∷ wall ∷ []
+  is : own ≡ Some name ∷ Some element ∷ Some hide ∷ wall ∷ []
   name-good : P (rule_at symbol_table 0) name
   element-good : P (rule_at symbol_table 1) element
   hide-good : P (rule_at symbol_table 2) hide
@@ -232,7 +232,7 @@ symbol-slots P d own g c =
       element = v₁;
       hide = v₂;
       wall = o;
-      is = four own s₀ s₁ s₂ (some v₀) (some v₁) (some v₂) o e₀ e₁ e₂ e₃;
+      is = four own s₀ s₁ s₂ (Some v₀) (Some v₁) (Some v₂) o e₀ e₁ e₂ e₃;
       name-good = g₀;
       element-good = g₁;
       hide-good = g₂;
@@ -241,7 +241,7 @@ symbol-slots P d own g c =
 
 symbol-name : (P : Rule → Value → Type 0) (y : Symbol) (x : SymbolSlots P y.own) → symbol_name_of y ≡ chars_of x.name
 unfolding symbol_table
-symbol-name P y x = ap (λ (u : Slots). chars_of (slot_value (get_or u 0 none))) x.is
+symbol-name P y x = ap (λ (u : Slots). chars_of (slot_value (get_or u 0 None))) x.is
 
 opens_define : (next : List ℕ) (S : Set) (n : ℕ) → reaches (digits_of (define_range S)) (digits 0 1) ≡ true
     → step_in plain_env (line_for next false (open_line (bytes "E_symbol"))) (defines (retaken n S) false) ≡ got (symbol (retaken (n + 1) S) (symbol_of (blank symbol_table) [] [] false))

@@ -1,8 +1,8 @@
 -- Wires written and read again: their elements, then what repeats, key by key, their texts, and the rows that stand once.
+use Rattle.std.specs.Prelude.{Option, Some, None}
 use Prim.Native.Nat.{ℕ, zero, suc, ◌+◌, ◌≤◌}
 use mathlib.Core.Bool.{Bool, true, false, ◌&&◌, ◌||◌, not}
 use mathlib.Core.List.{List, [], ◌∷◌, ◌++◌, map, append-nil, append_assoc}
-use mathlib.Core.Option.{Option, none, some}
 use mathlib.Core.Path.{◌≡◌, refl, sym, ◌∙◌, ap, ap₂, subst}
 use native.Mathlib.Omega.{arith}
 use lib.Dec.{eqb, leb}
@@ -50,7 +50,7 @@ once-calm {i} {r} w l v =
     calm-kind r.holds v (not-true (may_open r.holds) e)
 
 -- ── slots ──
-any-free : (u : Slots) (i : ℕ) (v : Value) → Free u i → any_slot (set u i (some v)) ≡ true
+any-free : (u : Slots) (i : ℕ) (v : Value) → Free u i → any_slot (set u i (Some v)) ≡ true
 any-free [] i v f = absurd f
 any-free (o ∷ u) zero v f = refl
 any-free (o ∷ u) (suc i) v f = rw (any-free u i v f) (or_true (is_some o))
@@ -64,7 +64,7 @@ any-bare [] = refl
 any-bare (o ∷ s) = ap₂ ◌||◌ (some-bare o) (any-bare s)
 
 -- a row that is filled is none of the first n, where these hold nothing
-not-below : (n i : ℕ) (s : Slots) (v : Value) → none_below n s ≡ true → get_or s i none ≡ some v → n ≤ i
+not-below : (n i : ℕ) (s : Slots) (v : Value) → none_below n s ≡ true → get_or s i None ≡ Some v → n ≤ i
 not-below zero i s v e q = omega arith
 not-below (suc n) i [] v e q = none-some q
 not-below (suc n) zero (o ∷ s) v e q = clash (and_left (is_none o) _ e) (ap is_none q)
@@ -116,7 +116,7 @@ module _ (next : List ℕ) (S : Set) (m : ℕ) (fs : List Figure) where
   read-edges n es former [] q g = rw (append-nil es) (no_lines next (in_wire n (with_edges es)))
   read-edges n es former (e ∷ gs) q g =
       one_line next (line_of (known_of S) (rule_at wire_table e.row) (nums e.values)) (in_wire n (with_edges es)) (in_wire (n + 1) (with_edges (es ++ bare_edge e ∷ []))) (element-line n es former e q g.0)
-      and rw (← append_assoc es (bare_edge e ∷ []) (map bare_edge gs)) (read-edges (n + 1) (es ++ bare_edge e ∷ []) (some e) gs (last_snoc es (bare_edge e)) g.1)
+      and rw (← append_assoc es (bare_edge e ∷ []) (map bare_edge gs)) (read-edges (n + 1) (es ++ bare_edge e ∷ []) (Some e) gs (last_snoc es (bare_edge e)) g.1)
 
   -- ── a row that repeats: the wire by the lines of that row, and whether anything but elements has stood ──
   module _ (n : ℕ) (K : List (List Num) → Bool → Wire) (j : ℕ) (not-element : is_element_row j ≡ false) (not-serial : eqb j wire_serial_row ≡ false)
@@ -181,22 +181,22 @@ module _ (next : List ℕ) (S : Set) (m : ℕ) (fs : List Figure) where
 
   -- ── the rows that stand once ──
   module _ (n : ℕ) (es : List Edge) (gs : List (List (List Num))) (ss : List Slots) (p : Bool) (own : Slots) (good : GoodSlots (Always (wires_of S)) wire_table own)
-      (once : none_below once_rows own ≡ true) (new : none_of (own_number (get_or own wire_serial_row none)) (serials_in S ++ flat (map figure_serial fs)) ≡ true) where
+      (once : none_below once_rows own ≡ true) (new : none_of (own_number (get_or own wire_serial_row None)) (serials_in S ++ flat (map figure_serial fs)) ≡ true) where
     abbrev owning : Slots → Wire
     owning u = record { elements = es; groups = gs; texts = ss; own = u; writing = []; past = p || any_slot u }
 
     -- an attribute's number is new: only serial has one
-    is-new : (i : ℕ) (v : Value) → get_or own i none ≡ some v → new_number (retaken n S) fs i (bare_value v) ≡ true
+    is-new : (i : ℕ) (v : Value) → get_or own i None ≡ Some v → new_number (retaken n S) fs i (bare_value v) ≡ true
     is-new i v e = go (eqb i wire_serial_row) refl
       where
-        go : (b : Bool) → eqb i wire_serial_row ≡ b → (not b || none_of (own_number (some (bare_value v))) (serials_in S ++ flat (map figure_serial fs))) ≡ true
+        go : (b : Bool) → eqb i wire_serial_row ≡ b → (not b || none_of (own_number (Some (bare_value v))) (serials_in S ++ flat (map figure_serial fs))) ≡ true
         go false q = refl
         go true q =
-            let z : get_or own wire_serial_row none ≡ some v = ap (λ (k : ℕ). get_or own k none) (sym (eqb-true i wire_serial_row q)) ∙ e in
+            let z : get_or own wire_serial_row None ≡ Some v = ap (λ (k : ℕ). get_or own k None) (sym (eqb-true i wire_serial_row q)) ∙ e in
             rw (amount-bare v 0) (rw z at new)
 
-    enters-once : (i : ℕ) (r : Rule) (v : Value) → Row wire_table i r → get_or own i none ≡ some v → Always (wires_of S) r v → (u : Slots) → Free u i
-        → step_in plain_env (line_for next false (line_of (known_of S) r v)) (in_wire n (owning u)) ≡ got (in_wire n (owning (set u i (some (bare_value v)))))
+    enters-once : (i : ℕ) (r : Rule) (v : Value) → Row wire_table i r → get_or own i None ≡ Some v → Always (wires_of S) r v → (u : Slots) → Free u i
+        → step_in plain_env (line_for next false (line_of (known_of S) r v)) (in_wire n (owning u)) ≡ got (in_wire n (owning (set u i (Some (bare_value v)))))
     enters-once i r v at e g u f =
         let l = not-below once_rows i own v once e in
         let later : is_element_row i ≡ false = le-ltb i first_group_row (omega arith) in
@@ -206,7 +206,7 @@ module _ (next : List ℕ) (S : Set) (m : ℕ) (fs : List Figure) where
     read-once : Reads next (in_wire n (owning (blank wire_table))) (show_slots (known_of S) wire_table own no_inner) (in_wire n (owning (bare_slots own)))
     read-once =
         read-slots next (known_of S) no_inner (Always (wires_of S)) (λ u. in_wire n (owning u)) wire_table own good
-        (λ i r v at e g u f. entered next (known_of S) no_inner r v (in_wire n (owning u)) (in_wire n (owning (set u i (some (bare_value v))))) (once-calm at (not-below once_rows i own v once e) v)
+        (λ i r v at e g u f. entered next (known_of S) no_inner r v (in_wire n (owning u)) (in_wire n (owning (set u i (Some (bare_value v))))) (once-calm at (not-below once_rows i own v once e) v)
         (enters-once i r v at e g u f))
 
 opens-wire : (next : List ℕ) (S : Set) (n m : ℕ) (fs : List Figure) → is_wired S ≡ true
@@ -248,7 +248,7 @@ module _ (next : List ℕ) (S : Set) (n m : ℕ) (fs : List Figure) (w : Wire) (
   pub read-wire : is_wired S ≡ true → Reads next (figures (retaken n S) (in_layer m) fs) (block (bytes "E_wire") (show_wire (known_of S) w)) (figures (retaken taken S) (in_layer m) (fs ++ wired 0 (bare_wire w) ∷ []))
   read-wire e =
       one_line next (open_line (bytes "E_wire")) (figures (retaken n S) (in_layer m) fs) (placing (retaken (n + 2) S) m fs 0 (wire_block no_wire) 0) (opens-wire next S n m fs e)
-      and read-edges next S m fs (n + 2) [] none w.elements refl g.holds.elements
+      and read-edges next S m fs (n + 2) [] None w.elements refl g.holds.elements
       and in-groups
       and read-texts next S m fs taken es w.groups [] more w.texts g.holds.texts
       and in-own

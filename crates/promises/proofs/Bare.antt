@@ -1,9 +1,9 @@
 -- What is looked up in values, slots and sets is the same with their places made 0.
+use Rattle.std.specs.Prelude.{Option, Some, None}
 use Prim.Native.Nat.{ℕ}
 use Prim.Native.String as S
 use mathlib.Core.Bool.{Bool, true, false, not}
 use mathlib.Core.List.{List, [], ◌∷◌, ◌++◌, map}
-use mathlib.Core.Option.{Option, none, some}
 use mathlib.Core.Path.{◌≡◌, refl, ◌∙◌, ap, ap₂}
 use lib.Dec.{eqb}
 use lib.ListN.{length, get_or, set, drop, length-map, get_or-map}
@@ -44,36 +44,36 @@ pub amount-bare : (v : Value) (i : ℕ) → amount_at (bare_value v) i ≡ amoun
 amount-bare v i = rw (nums-bare v)
 
 pub none_bare : (o : Option Value) → is_none (map_o bare_value o) ≡ is_none o
-none_bare none = refl
-none_bare (some v) = refl
+none_bare None = refl
+none_bare (Some v) = refl
 
 pub some-bare : (o : Option Value) → is_some (map_o bare_value o) ≡ is_some o
-some-bare none = refl
-some-bare (some v) = refl
+some-bare None = refl
+some-bare (Some v) = refl
 
 pub marks-bare : (s : Slots) → rows_there (bare_slots s) ≡ rows_there s
 marks-bare s = map_same is_some (map_o bare_value) some-bare s
 
 pub slot-bare : (o : Option Value) → slot_value (map_o bare_value o) ≡ bare_value (slot_value o)
-slot-bare none = refl
-slot-bare (some v) = refl
+slot-bare None = refl
+slot-bare (Some v) = refl
 
-pub at_bare : (s : Slots) (i : ℕ) → get_or (bare_slots s) i none ≡ map_o bare_value (get_or s i none)
-at_bare s i = get_or-map (map_o bare_value) s i none
+pub at_bare : (s : Slots) (i : ℕ) → get_or (bare_slots s) i None ≡ map_o bare_value (get_or s i None)
+at_bare s i = get_or-map (map_o bare_value) s i None
 
 pub held-bare : (k : S.String) (t : List Rule) (s : Slots) → slot_value (held k t (bare_slots s)) ≡ bare_value (slot_value (held k t s))
 held-bare k t s = go (find (bytes k) t)
   where
     go : (f : Found) → slot_value (held_at f (bare_slots s)) ≡ bare_value (slot_value (held_at f s))
     go absent = refl
-    go (found i r) = rw (at_bare s i) (slot-bare (get_or s i none))
+    go (found i r) = rw (at_bare s i) (slot-bare (get_or s i None))
 
 pub number-bare : (k : S.String) (t : List Rule) (s : Slots) → number_of k t (bare_slots s) ≡ number_of k t s
 number-bare k t s = rw (held-bare k t s) (amount-bare (slot_value (held k t s)) 0)
 
 pub blank-bare : (t : List Rule) → bare_slots (blank t) ≡ blank t
 blank-bare [] = refl
-blank-bare (r ∷ t) = ap (λ s. none ∷ s) (blank-bare t)
+blank-bare (r ∷ t) = ap (λ s. None ∷ s) (blank-bare t)
 
 pub part-bare : (h : Held) (p : ℕ) → part_of (bare_held h) p ≡ bare_slots (part_of h p)
 part-bare h p = get_or-map bare_slots h p []
@@ -87,7 +87,7 @@ pub part-marks : (h : Held) (p : ℕ) → rows_there (part_of (bare_held h) p) �
 part-marks h p = rw (part-bare h p) (marks-bare (part_of h p))
 
 pub enter-bare : (h : Held) (p j : ℕ) (v : Value) → bare_held (enter h p j v) ≡ enter (bare_held h) p j (bare_value v)
-enter-bare h p j v = rw (part-bare h p, ← (map-set (map_o bare_value) (part_of h p) j (some v))) (map-set bare_slots h p (set (part_of h p) j (some v)))
+enter-bare h p j v = rw (part-bare h p, ← (map-set (map_o bare_value) (part_of h p) j (Some v))) (map-set bare_slots h p (set (part_of h p) j (Some v)))
 
 pub held-blank : (ts : List (List Rule)) → bare_held (map blank ts) ≡ map blank ts
 held-blank ts = map_compose bare_slots blank ts ∙ map-agree _ _ blank-bare ts
@@ -144,14 +144,14 @@ known-bare s = ap₂ (λ a b. known a b) (names-bare s.symbols) (ids-bare s.draw
     known a b = record { symbols = a; layers = b }
 
 own-number-bare : (o : Option Value) → own_number (map_o bare_value o) ≡ own_number o
-own-number-bare none = refl
-own-number-bare (some v) = ap (λ n. n ∷ []) (amount-bare v 0)
+own-number-bare None = refl
+own-number-bare (Some v) = ap (λ n. n ∷ []) (amount-bare v 0)
 
 pub serial-bare : (f : Figure) → figure_serial (bare_figure f) ≡ figure_serial f
 serial-bare (plain n j v) = refl
 serial-bare (chain n ps) = refl
 serial-bare (lettering n s) = refl
-serial-bare (wired n w) = ap own_number (at_bare w.own wire_serial_row) ∙ own-number-bare (get_or w.own wire_serial_row none)
+serial-bare (wired n w) = ap own_number (at_bare w.own wire_serial_row) ∙ own-number-bare (get_or w.own wire_serial_row None)
 serial-bare (passed n) = refl
 serial-bare (placed n h) =
     rw (part-bare h 0, held-bare "serial" placed_table (part_of h 0)) (ap own_serial (serials-bare (slot_value (held "serial" placed_table (part_of h 0)))))
@@ -176,7 +176,7 @@ partners-bare (chain n ps) = refl
 partners-bare (lettering n s) = refl
 partners-bare (wired n w) =
     ap (λ o. wire_partners (slot_value o)) (at_bare w.own wire_serial_row)
-    ∙ ap wire_partners (slot-bare (get_or w.own wire_serial_row none)) ∙ wire-partners (slot_value (get_or w.own wire_serial_row none))
+    ∙ ap wire_partners (slot-bare (get_or w.own wire_serial_row None)) ∙ wire-partners (slot_value (get_or w.own wire_serial_row None))
 partners-bare (passed n) = refl
 partners-bare (placed n h) =
     rw (part-bare h 0, held-bare "serial" placed_table (part_of h 0)) (ap (drop 1) (serials-bare (slot_value (held "serial" placed_table (part_of h 0)))))

@@ -1,8 +1,8 @@
 -- What a line does, places apart: its shape, its act, and what the act does.
+use Rattle.std.specs.Prelude.{Option, Some, None}
 use Prim.Native.Nat.{ℕ}
 use mathlib.Core.Bool.{Bool, false, cond}
 use mathlib.Core.List.{List, [], ◌∷◌}
-use mathlib.Core.Option.{Option, none, some}
 use mathlib.Core.Path.{◌≡◌, refl, sym, ◌∙◌, ap}
 use lib.ListN.{get_or}
 use Rattle.rules.specs.declared.Digits.{Digits}
@@ -25,9 +25,9 @@ bare_shape (opening at c) = opening 0 c
 bare_shape formless = formless
 
 stem-bare : (at : ℕ) (c : List ℕ) (o : Option (List ℕ)) → by_stem 0 c o ≡ bare_shape (by_stem at c o)
-stem-bare at c none = refl
-stem-bare at c (some []) = refl
-stem-bare at c (some (b ∷ t)) = refl
+stem-bare at c None = refl
+stem-bare at c (Some []) = refl
+stem-bare at c (Some (b ∷ t)) = refl
 
 shape-bare : (c : Rest) → shape_of (bare_rest c) ≡ bare_shape (shape_of c)
 shape-bare brace = refl

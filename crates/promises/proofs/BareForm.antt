@@ -1,8 +1,8 @@
 -- The fixed form does not look at places.
+use Rattle.std.specs.Prelude.{Some, None}
 use Prim.Native.Nat.{ℕ, zero, suc}
 use mathlib.Core.Bool.{Bool, true, false, cond}
 use mathlib.Core.List.{List, [], ◌∷◌, map}
-use mathlib.Core.Option.{none, some}
 use mathlib.Core.Path.{◌≡◌, refl, ◌∙◌, ap, ap₂}
 use lib.ListN.{get_or}
 use Rattle.rules.specs.Base.{bytes, map_o}
@@ -59,8 +59,8 @@ module _ (k : Known) where
   show_slots-bare : (t : List Rule) (s : Slots) (f g : ℕ → Text → Text) → ((i : ℕ) (ls : Text) → f i ls ≡ g i ls) → (ls : Text) → show_slots k t (bare_slots s) f ls ≡ show_slots k t s g ls
   show_slots-bare [] s f g e ls = refl
   show_slots-bare (r ∷ t) [] f g e ls = refl
-  show_slots-bare (r ∷ t) (none ∷ s) f g e ls = show_slots-bare t s f g e ls
-  show_slots-bare (r ∷ t) (some v ∷ s) f g e ls =
+  show_slots-bare (r ∷ t) (None ∷ s) f g e ls = show_slots-bare t s f g e ls
+  show_slots-bare (r ∷ t) (Some v ∷ s) f g e ls =
       show_value-bare r v f (show_slots k t (bare_slots s) f ls)
       ∙ ap (λ x. line_of k r v ∷ cond (opens_block r.holds v) (f (inner_of r.holds) (bytes "}" ∷ x)) x) (show_slots-bare t s f g e ls)
       ∙ ap (λ x. line_of k r v ∷ cond (opens_block r.holds v) x (show_slots k t s g ls)) (e (inner_of r.holds) (bytes "}" ∷ show_slots k t s g ls))

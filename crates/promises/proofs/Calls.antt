@@ -1,4 +1,5 @@
 -- Demand 3 of two calls of the reader, proved from its contract and the theorems of the demands.
+use Rattle.std.specs.Prelude.{Ok}
 use Prim.Native.Nat.{ℕ, ◌*◌, ◌-◌}
 use mathlib.Core.List.{List, [], ◌∷◌, ◌++◌, append_assoc}
 use mathlib.Core.Path.{◌≡◌, refl, sym, ◌∙◌, ap, ap₂}
@@ -6,7 +7,6 @@ use native.Mathlib.Omega.{arith}
 use lib.IntN.{ℤ, pos}
 use lib.ListN.{length, take, drop, replicate}
 use lib.Seq.{take_at, drop_at}
-use Rattle.rules.specs.declared.Answer.TheVariants.{Accepted}
 use Rattle.rules.specs.Base.{flat}
 use Rattle.rules.specs.Sets.{Set}
 use Rattle.rules.specs.LineByLine.{Outcome, refused, accepted}
@@ -20,11 +20,11 @@ use Rattle.promises.proofs.Answered.{demand-one}
 use Rattle.promises.proofs.TwoClasses.{lower-accepts, higher-refuses}
 
 -- an answer that accepts comes of a set that was read
-pub accepted-set : (class wire len : ℕ) (spool : List ℕ) (n : ℕ) → read_answer class wire len spool ≡ Accepted n → (s : Set) × (read_outcome class wire len spool ≡ accepted s)
+pub accepted-set : (class wire len : ℕ) (spool : List ℕ) (n : ℕ) → read_answer class wire len spool ≡ Ok n → (s : Set) × (read_outcome class wire len spool ≡ accepted s)
 unfolding read_answer
 accepted-set class wire len spool n e = go (read_outcome class wire len spool) (length (read_records class wire len spool)) e
   where
-    go : (o : Outcome) (k : ℕ) → answer_with k o ≡ Accepted n → (s : Set) × (o ≡ accepted s)
+    go : (o : Outcome) (k : ℕ) → answer_with k o ≡ Ok n → (s : Set) × (o ≡ accepted s)
     go (refused j v l) k e = absurd (let z : ◌≡◌ {A = ℕ} 0 1 = cc in omega arith)
     go (accepted s) k e = (s, refl)
 
@@ -36,7 +36,7 @@ first_flat (r ∷ rs) z (one_more e w) =
     ap₂ ◌∷◌ (ap (take width) seam ∙ take_at r (flat rs ++ z) width e)
     (ap (first_records (length rs)) (ap (drop width) seam ∙ drop_at r (flat rs ++ z) width e) ∙ first_flat rs z w)
 
-pub table-records : (class wire len : ℕ) (spool : List ℕ) (n : ℕ) → read_answer class wire len spool ≡ Accepted n → first_records n (read_table class wire len spool) ≡ read_records class wire len spool
+pub table-records : (class wire len : ℕ) (spool : List ℕ) (n : ℕ) → read_answer class wire len spool ≡ Ok n → first_records n (read_table class wire len spool) ≡ read_records class wire len spool
 table-records class wire len spool n e =
     let w = (demand-one.reader class wire len spool).when_accepted n e in
     ap₂ first_records (sym w.count) w.stands ∙ first_flat (read_records class wire len spool) _ w.wide

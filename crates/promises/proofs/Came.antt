@@ -1,9 +1,9 @@
 -- Every figure that is one line, and every line and arc of a wire, came of a line of the volume that its record will show: a state's invariant.
 -- L says of a volume, a line number and a form that this line has this form.
+use Rattle.std.specs.Prelude.{Some}
 use Prim.Native.Nat.{ℕ, zero, suc, ◌+◌, ◌≤◌, ◌<◌}
 use mathlib.Core.Bool.{Bool, true, false, cond, ◌&&◌, ◌||◌, not}
 use mathlib.Core.List.{List, [], ◌∷◌, ◌++◌}
-use mathlib.Core.Option.{some}
 use mathlib.Core.Path.{◌≡◌, refl, sym, ◌∙◌, ap, subst}
 use native.Mathlib.Omega.{arith}
 use lib.Dec.{eqb, leb, ltb}
@@ -191,7 +191,7 @@ module _ (L : ℕ → ℕ → Form → Type 0) where
     in-symbol : (s : Set) (y : Symbol) (f : Form) → J (symbol s y) → On J (on_symbol s y f)
     in-symbol s y f i =
         on-by_act J _ _ _ _ (act (known_of s) symbol_table (digits_of (define_range s)) (rows_there y.own) f) i
-        (λ j v. on-unless J (new_name s (symbol_own (set y.own j (some v)) y)) 15 _ λ _. i) (λ m j v b. open-symbol s (symbol_own (set y.own j (some v)) y) m i)
+        (λ j v. on-unless J (new_name s (symbol_own (set y.own j (Some v)) y)) 15 _ λ _. i) (λ m j v b. open-symbol s (symbol_own (set y.own j (Some v)) y) m i)
         ((each_more CameSymbol s.symbols y i.0.0.0 i.1, i.0.0.1), i.0.1)
 
     in-hide : (s : Set) (y : Symbol) (ps : List Point) (f : Form) → J (hide s y ps) → On J (on_hide e l s y ps f)

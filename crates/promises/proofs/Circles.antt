@@ -1,8 +1,8 @@
 -- How circles are read: what stands where among the values of a line, and a circle's turn.
+use Rattle.std.specs.Prelude.{Some}
 use Prim.Native.Nat.{ℕ, zero, suc, ◌<◌, ◌≤◌}
 use mathlib.Core.Bool.{Bool, true, false}
 use mathlib.Core.List.{List, [], ◌∷◌, ◌++◌}
-use mathlib.Core.Option.{some}
 use mathlib.Core.Path.{◌≡◌, refl, sym, ◌∙◌, ap, subst}
 use native.Mathlib.Omega.{arith}
 use lib.Dec.{eqb}
@@ -58,7 +58,7 @@ former-value (b ∷ v) w (suc i) h = former-value v w i (omega arith)
 
 -- ── a turn ──
 -- a digit that is 0 or 1, as it stands
-pub digit-read : (k : Known) (s : List ℕ) (a : Num) → read_part k (digit 0 1) s ≡ got a → (n : ℕ) × (n ≤ 1) × (read_fixed 1 s ≡ some n) × (num (pos n) ≡ a)
+pub digit-read : (k : Known) (s : List ℕ) (a : Num) → read_part k (digit 0 1) s ≡ got a → (n : ℕ) × (n ≤ 1) × (read_fixed 1 s ≡ Some n) × (num (pos n) ≡ a)
 digit-read k s a e =
     let (n, g, q) = map-got (λ n. num (pos n)) (keep 11 (within 0 1) (or_bad 10 (read_fixed 1 s))) a e in
     let (o, t) = keep-got 11 (within 0 1) (or_bad 10 (read_fixed 1 s)) n g in
@@ -95,13 +95,13 @@ is_decimal symbol_name = false
 is_decimal layer_id = false
 
 -- whatever a decimal's bound and its number
-kept-decimal : (m : ℕ) (test : ℤ → Bool) (s : List ℕ) (a : Num) → map_g num (keep m test (or_bad 10 (read_decimal s))) ≡ got a → (read_decimal s ≡ some a.value) × (test a.value ≡ true)
+kept-decimal : (m : ℕ) (test : ℤ → Bool) (s : List ℕ) (a : Num) → map_g num (keep m test (or_bad 10 (read_decimal s))) ≡ got a → (read_decimal s ≡ Some a.value) × (test a.value ≡ true)
 kept-decimal m test s a e =
     let (z, g, q) = map-got num (keep m test (or_bad 10 (read_decimal s))) a e in
     let (o, t) = keep-got m test (or_bad 10 (read_decimal s)) z g in
-    (or-got 10 (read_decimal s) z o ∙ ap (λ (c : Num). some c.value) q, ap (λ (c : Num). test c.value) (sym q) ∙ t)
+    (or-got 10 (read_decimal s) z o ∙ ap (λ (c : Num). Some c.value) q, ap (λ (c : Num). test c.value) (sym q) ∙ t)
 
-pub decimal-read : (k : Known) (p : Part) (s : List ℕ) (a : Num) → is_decimal p ≡ true → read_part k p s ≡ got a → read_decimal s ≡ some a.value
+pub decimal-read : (k : Known) (p : Part) (s : List ℕ) (a : Num) → is_decimal p ≡ true → read_part k p s ≡ got a → read_decimal s ≡ Some a.value
 decimal-read k count s a d e = clash d refl
 decimal-read k (digit lo hi) s a d e = clash d refl
 decimal-read k type_digits s a d e = clash d refl
@@ -118,7 +118,7 @@ decimal-read k layer_id s a d e = clash d refl
 pub exact_read : (k : Known) (n : ℕ) (s : List ℕ) (a : Num) → read_part k (exactly n) s ≡ got a → equal_z (pos n) a.value ≡ true
 exact_read k n s a e = (kept-decimal 10 (equal_z (pos n)) s a e).1
 
-pub type-read : (k : Known) (s : List ℕ) (a : Num) → read_part k type_digits s ≡ got a → (n : ℕ) × (read_fixed 4 s ≡ some n) × (a.value ≡ pos n)
+pub type-read : (k : Known) (s : List ℕ) (a : Num) → read_part k type_digits s ≡ got a → (n : ℕ) × (read_fixed 4 s ≡ Some n) × (a.value ≡ pos n)
 type-read k s a e =
     let (n, g, q) = map-got (λ n. num (pos n)) (or_bad 10 (read_fixed 4 s)) a e in
     (n, or-got 10 (read_fixed 4 s) n g, ap (λ (c : Num). c.value) (sym q))

@@ -1,9 +1,9 @@
 -- The records of an accepted set are those that were taken on the way, each at its line, so they are as many and fit the table: an invariant of
 -- the reading.
+use Rattle.std.specs.Prelude.{Option, Some, None}
 use Prim.Native.Nat.{ℕ, zero, suc, ◌+◌, ◌<◌}
 use mathlib.Core.Bool.{Bool, true, false, cond, ◌&&◌, ◌||◌, not}
 use mathlib.Core.List.{List, [], ◌∷◌, ◌++◌, map, append-nil, append_assoc}
-use mathlib.Core.Option.{Option, none, some}
 use mathlib.Core.Path.{◌≡◌, refl, sym, ◌∙◌, ap, subst}
 use native.Mathlib.Omega.{arith}
 use lib.Dec.{eqb, leb, ltb, leb-zero}
@@ -213,8 +213,8 @@ module _ (e : Env) (l : Line) where
       (on-unless (Does (defines s non)) (non || not (is_nil s.symbols)) 8 _ λ _.
       still i (front-is s.drawing s.symbols s.volumes s.now i.kept.0 i.kept.1) tt refl)
 
-  inv_open-symbol : (s : Set) (y : Symbol) (j : ℕ) (v : Value) (i : ℕ) → SymbolOpens i j → is_none (get_or y.own j none) ≡ true → Inv e (symbol s y)
-      → On (Does (symbol s y)) (open_symbol s (symbol_own (set y.own j (some v)) y) i)
+  inv_open-symbol : (s : Set) (y : Symbol) (j : ℕ) (v : Value) (i : ℕ) → SymbolOpens i j → is_none (get_or y.own j None) ≡ true → Inv e (symbol s y)
+      → On (Does (symbol s y)) (open_symbol s (symbol_own (set y.own j (Some v)) y) i)
   inv_open-symbol s y j v zero o p h = tt
   inv_open-symbol s y j v (suc zero) o p h =
       let w = h.kept.1 in
@@ -230,7 +230,7 @@ module _ (e : Env) (l : Line) where
   inv-symbol : (s : Set) (y : Symbol) (f : Form) → Inv e (symbol s y) → On (Does (symbol s y)) (on_symbol s y f)
   inv-symbol s y f i =
       on-by_act (Does (symbol s y)) _ _ _ _ (act (known_of s) symbol_table (digits_of (define_range s)) (rows_there y.own) f) (still i refl i.kept refl)
-      (λ j v. on-unless (Does (symbol s y)) (new_name s (symbol_own (set y.own j (some v)) y)) 15 _ λ _. still i refl (i.kept.0, slotted-set j v i.kept.1) refl)
+      (λ j v. on-unless (Does (symbol s y)) (new_name s (symbol_own (set y.own j (Some v)) y)) 15 _ λ _. still i refl (i.kept.0, slotted-set j v i.kept.1) refl)
       (λ m j v b.
       let w = symbol-begun y.own (act-begin (known_of s) symbol_table (digits_of (define_range s)) (rows_there y.own) f b) in
       inv_open-symbol s y j v m w.0 w.1 i)
@@ -490,8 +490,8 @@ inv-run e st (l ∷ ls) s i q = go (step e l st) (inv-step e l st i) (λ st' i' 
     go (bad n) w ih q = not-accepted q
 
 room-nothing : (m : Option ℕ) → room_for m 0 ≡ true
-room-nothing none = refl
-room-nothing (some n) = leb-zero n
+room-nothing None = refl
+room-nothing (Some n) = leb-zero n
 
 pub inv-start : (e : Env) → Inv e (top nothing_yet 0)
 inv-start e = record { counts = refl; room = room-nothing e.limit; kept = λ _. refl }

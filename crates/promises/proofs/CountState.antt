@@ -1,8 +1,8 @@
 -- At which lines a state's records were taken, and what else it keeps: the invariant of the count.
+use Rattle.std.specs.Prelude.{Option, Some, None}
 use Prim.Native.Nat.{ℕ, zero, suc, ◌+◌, ◌<◌}
 use mathlib.Core.Bool.{Bool, true, false, true≢false}
 use mathlib.Core.List.{List, [], ◌∷◌, ◌++◌, append-nil}
-use mathlib.Core.Option.{Option, none, some}
 use mathlib.Core.Path.{◌≡◌, refl, sym, ◌∙◌}
 use native.Mathlib.Omega.{arith}
 use lib.ListN.{length, get_or, set, replicate, length-set, get_or-map}
@@ -114,9 +114,9 @@ shown (ended s) = closed s
 -- a symbol's slots: where `element` or `hide` has not been, there are no figures or no points; and points before `element` are a `hide` before it
 pub record Slotted (own : Slots) (shown : List Figure) (hidden : List Point) (hide_first : Bool) : Type 0 where
   pub size : length own ≡ 4
-  pub figs : is_none (get_or own 1 none) ≡ true → shown ≡ []
-  pub dots : is_none (get_or own 2 none) ≡ true → hidden ≡ []
-  pub order : is_none (get_or own 1 none) ≡ true → hide_first ≡ false → hidden ≡ []
+  pub figs : is_none (get_or own 1 None) ≡ true → shown ≡ []
+  pub dots : is_none (get_or own 2 None) ≡ true → hidden ≡ []
+  pub order : is_none (get_or own 1 None) ≡ true → hide_first ≡ false → hidden ≡ []
 
 -- before the first volume's ELEMENT
 abbrev Early : Set → Type 0
@@ -205,7 +205,7 @@ took n r h e b c = record { count = n; counts = refl; shows = e; room = r; kept 
 
 -- ── the slots of a symbol ──
 -- a slot that is filled stays filled
-set-none : (s : Slots) (j : ℕ) (v : Value) (i : ℕ) → is_none (get_or (set s j (some v)) i none) ≡ true → is_none (get_or s i none) ≡ true
+set-none : (s : Slots) (j : ℕ) (v : Value) (i : ℕ) → is_none (get_or (set s j (Some v)) i None) ≡ true → is_none (get_or s i None) ≡ true
 set-none [] j v i e = e
 set-none (o ∷ s) zero v zero e = absurd (true≢false (sym e))
 set-none (o ∷ s) zero v (suc i) e = e
@@ -213,30 +213,30 @@ set-none (o ∷ s) (suc j) v zero e = e
 set-none (o ∷ s) (suc j) v (suc i) e = set-none s j v i e
 
 -- a slot that was just filled
-set-some : {P : Type 0} (s : Slots) (j : ℕ) (v : Value) → j < length s → is_none (get_or (set s j (some v)) j none) ≡ true → P
-set-some s j v h e = clash e (rw (get_or-set_same s j (some v) none h))
+set-some : {P : Type 0} (s : Slots) (j : ℕ) (v : Value) → j < length s → is_none (get_or (set s j (Some v)) j None) ≡ true → P
+set-some s j v h e = clash e (rw (get_or-set_same s j (Some v) None h))
 
-pub slotted-set : {own : Slots} {f : List Figure} {h : List Point} {b : Bool} (j : ℕ) (v : Value) → Slotted own f h b → Slotted (set own j (some v)) f h b
+pub slotted-set : {own : Slots} {f : List Figure} {h : List Point} {b : Bool} (j : ℕ) (v : Value) → Slotted own f h b → Slotted (set own j (Some v)) f h b
 slotted-set {own} j v w = record {
-  size = length-set own j (some v) ∙ w.size;
+  size = length-set own j (Some v) ∙ w.size;
   figs = λ e. w.figs (set-none own j v 1 e);
   dots = λ e. w.dots (set-none own j v 2 e);
   order = λ e. w.order (set-none own j v 1 e);
 }
 
 -- `element` opens, `hide` opens: from here on any number of figures, of points
-pub slotted-figs : {own : Slots} {f : List Figure} {h : List Point} {b : Bool} (v : Value) → Slotted own f h b → (fs : List Figure) → Slotted (set own 1 (some v)) fs h b
+pub slotted-figs : {own : Slots} {f : List Figure} {h : List Point} {b : Bool} (v : Value) → Slotted own f h b → (fs : List Figure) → Slotted (set own 1 (Some v)) fs h b
 slotted-figs {own} v w fs = record {
-  size = length-set own 1 (some v) ∙ w.size;
+  size = length-set own 1 (Some v) ∙ w.size;
   figs = λ e. set-some own 1 v (omega (arith, w.size)) e;
   dots = λ e. w.dots (set-none own 1 v 2 e);
   order = λ e. set-some own 1 v (omega (arith, w.size)) e;
 }
 
 pub slotted-dots : {own : Slots} {f : List Figure} {h : List Point} {b : Bool} (v : Value) → Slotted own f h b
-    → (ps : List Point) → Slotted (set own 2 (some v)) f ps (is_none (get_or (set own 2 (some v)) 1 none))
+    → (ps : List Point) → Slotted (set own 2 (Some v)) f ps (is_none (get_or (set own 2 (Some v)) 1 None))
 slotted-dots {own} v w ps = record {
-  size = length-set own 2 (some v) ∙ w.size;
+  size = length-set own 2 (Some v) ∙ w.size;
   figs = λ e. w.figs (set-none own 2 v 1 e);
   dots = λ e. set-some own 2 v (omega (arith, w.size)) e;
   order = λ e q. clash e q;
@@ -261,9 +261,9 @@ symbol-opens (suc (suc (suc zero))) = tt
 symbol-opens (suc (suc (suc (suc j)))) = tt
 
 -- a block that opens in a symbol is that of its row, and the row's slot was free
-pub symbol-begun : (own : Slots) {i j : ℕ} → Begun symbol_table (rows_there own) i j → SymbolOpens i j × (is_none (get_or own j none) ≡ true)
+pub symbol-begun : (own : Slots) {i j : ℕ} → Begun symbol_table (rows_there own) i j → SymbolOpens i j × (is_none (get_or own j None) ≡ true)
 symbol-begun own {i} {j} b =
     let r = b.rule in
     let at : rule_at symbol_table j ≡ r = row_at b.row _ in
     let fits-row : SymbolOpens (inner_of r.holds) j = rw (← at) (symbol-opens j) in
-    (rw (← b.inner) fits-row, not-false (is_none (get_or own j none)) (sym (get_or-map is_some own j none) ∙ b.free))
+    (rw (← b.inner) fits-row, not-false (is_none (get_or own j None)) (sym (get_or-map is_some own j None) ∙ b.free))

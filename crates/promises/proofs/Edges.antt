@@ -1,8 +1,8 @@
 -- A wire's lines and arcs, one behind the other: what holds of each and the one before it; and which of its rows are full.
+use Rattle.std.specs.Prelude.{Option, Some, None}
 use Prim.Native.Nat.{ℕ, zero, suc, ◌/◌, ◌≤◌}
 use mathlib.Core.Bool.{true, false, ◌&&◌}
 use mathlib.Core.List.{List, [], ◌∷◌, ◌++◌}
-use mathlib.Core.Option.{Option, none, some}
 use mathlib.Core.Path.{◌≡◌, refl, ◌∙◌, ap}
 use Rattle.rules.specs.Sets.{Edge, Wire}
 use native.Mathlib.Omega.{arith}
@@ -18,7 +18,7 @@ use Rattle.rules.specs.Wires.{joins_ends, last_edge, join_of, joined, wire_full,
 -- each behind the one before it, the first behind `former`
 abbrev pub Behind : (Option Edge → Edge → Type 0) → Option Edge → List Edge → Type 0
 Behind P former [] = Unit {0}
-Behind P former (e ∷ es) = P former e × Behind P (some e) es
+Behind P former (e ∷ es) = P former e × Behind P (Some e) es
 
 -- in a file of this E_wire it is joined as its first digit says, and the join is the one recorded
 pub record Joins (wires : ℕ) (former : Option Edge) (e : Edge) : Type 0 where
@@ -29,9 +29,9 @@ pub record Joins (wires : ℕ) (former : Option Edge) (e : Edge) : Type 0 where
 -- the last of these, or the one before them
 abbrev last_from : Option Edge → List Edge → Option Edge
 last_from former [] = former
-last_from former (e ∷ es) = last_from (some e) es
+last_from former (e ∷ es) = last_from (Some e) es
 
-last-from : (es : List Edge) → last_from none es ≡ last_edge es
+last-from : (es : List Edge) → last_from None es ≡ last_edge es
 last-from [] = refl
 last-from (e ∷ []) = refl
 last-from (e ∷ f ∷ es) = last-from (f ∷ es)
@@ -39,12 +39,12 @@ last-from (e ∷ f ∷ es) = last-from (f ∷ es)
 module _ (P : Option Edge → Edge → Type 0) where
   from_more : (former : Option Edge) (es : List Edge) (e : Edge) → Behind P former es → P (last_from former es) e → Behind P former (es ++ e ∷ [])
   from_more former [] e g z = (z, tt)
-  from_more former (f ∷ es) e g z = (g.0, from_more (some f) es e g.1 z)
+  from_more former (f ∷ es) e g z = (g.0, from_more (Some f) es e g.1 z)
 
-  pub behind_more : (es : List Edge) (e : Edge) → Behind P none es → P (last_edge es) e → Behind P none (es ++ e ∷ [])
-  behind_more es e g z = from_more none es e g (rw (last-from es) z)
+  pub behind_more : (es : List Edge) (e : Edge) → Behind P None es → P (last_edge es) e → Behind P None (es ++ e ∷ [])
+  behind_more es e g z = from_more None es e g (rw (last-from es) z)
 
-pub last_snoc : (es : List Edge) (e : Edge) → last_edge (es ++ e ∷ []) ≡ some e
+pub last_snoc : (es : List Edge) (e : Edge) → last_edge (es ++ e ∷ []) ≡ Some e
 last_snoc [] e = refl
 last_snoc (f ∷ []) e = refl
 last_snoc (f ∷ g ∷ es) e = last_snoc (g ∷ es) e

@@ -1,15 +1,14 @@
 -- A set is accepted exactly when it keeps the rules of its class and its records fit; otherwise the first broken rule is named.
+use Rattle.std.specs.Prelude.{Option, Some, None, Ok}
 use Prim.Native.Nat.{ℕ, ◌-◌, ◌*◌, ◌/◌, ◌≤◌, ◌<◌}
 use mathlib.Core.Bool.{Bool, true, false, cond}
 use mathlib.Core.List.{List, [], ◌∷◌, map}
-use mathlib.Core.Option.{Option, none, some}
 use mathlib.Core.Path.{◌≡◌, refl, sym, ◌∙◌, ap}
 use native.Mathlib.Omega.{arith}
 use lib.ListN.{length, get_or, length-map}
 use lib.Dec.{leb}
 use borrow.Author.Tests.{le-leb, lt-leb, leb-true, leb-false}
 use Rattle.rules.specs.declared.Class.{Class}
-use Rattle.rules.specs.declared.Answer.TheVariants.{Accepted}
 use Rattle.rules.specs.Base.{all}
 use Rattle.rules.specs.Spool.{Volume, volumes_of}
 use Rattle.rules.specs.RangeClass.{class_of}
@@ -35,8 +34,8 @@ listed_places c (listed ls) = taken_on c (top nothing_yet 0) ls
 listed_places c (no_lines v) = []
 
 abbrev places_in : Class → Option (List Volume) → List Place
-places_in c none = []
-places_in c (some vs) = listed_places c (list_volumes 1 vs)
+places_in c None = []
+places_in c (Some vs) = listed_places c (list_volumes 1 vs)
 
 nothing-taken : (m : ℕ) (o : Outcome) → Limited m 0 [] o o
 nothing-taken m o = record { fits = λ _. refl; full = λ h. absurd (omega (arith, h)) }
@@ -44,8 +43,8 @@ nothing-taken m o = record { fits = λ _. refl; full = λ h. absurd (omega (arit
 module _ (c : Class) where
   -- with a table of m records and without
   limited-volumes : (m : ℕ) (o : Option (List Volume)) → Limited m 0 (places_in c o) (outcome_of_volumes (unlimited c) o) (outcome_of_volumes (limited_to c m) o)
-  limited-volumes m none = nothing-taken m (refused 2 0 0)
-  limited-volumes m (some vs) = go (list_volumes 1 vs)
+  limited-volumes m None = nothing-taken m (refused 2 0 0)
+  limited-volumes m (Some vs) = go (list_volumes 1 vs)
     where
       go : (l : Listed) → Limited m 0 (listed_places c l) (outcome_of_lines (unlimited c) l) (outcome_of_lines (limited_to c m) l)
       go (listed ls) = limited c m ls (top nothing_yet 0) (inv-start (limited_to c m))
@@ -59,14 +58,14 @@ module _ (c : Class) where
       by u vs (no_lines w) q e = refl
 
       go : (o : Option (List Volume)) → volumes_of spool ≡ o → outcome_of_volumes (unlimited c) o ≡ refused k v n → all (λ p. earlier p (place v n)) (places_in c o) ≡ true
-      go none p e = refl
-      go (some []) p e = absurd (let w = volumes_inv spool [] p in omega (arith, w.one))
-      go (some (u ∷ vs)) p e = by u vs (list_volumes 1 (u ∷ vs)) refl e
+      go None p e = refl
+      go (Some []) p e = absurd (let w = volumes_inv spool [] p in omega (arith, w.one))
+      go (Some (u ∷ vs)) p e = by u vs (list_volumes 1 (u ∷ vs)) refl e
 
   -- none is taken before all volumes are found to have lines
   none-volumes : (o : Option (List Volume)) (k v n : ℕ) → outcome_of_volumes (unlimited c) o ≡ refused k v n → k ≤ 3 → places_in c o ≡ []
-  none-volumes none k v n e h = refl
-  none-volumes (some vs) k v n e h = go (list_volumes 1 vs) refl e
+  none-volumes None k v n e h = refl
+  none-volumes (Some vs) k v n e h = go (list_volumes 1 vs) refl e
     where
       go : (l : Listed) → list_volumes 1 vs ≡ l → outcome_of_lines (unlimited c) l ≡ refused k v n → listed_places c l ≡ []
       go (listed ls) q e = absurd (omega (arith, least-listed (unlimited c) vs ls q k v n e, h))
@@ -74,8 +73,8 @@ module _ (c : Class) where
 
   -- of an accepted set they are the lines of its records
   shown-volumes : (o : Option (List Volume)) (s : Set) → outcome_of_volumes (unlimited c) o ≡ accepted s → places_in c o ≡ map place_of (records_of c s)
-  shown-volumes none s e = not-accepted e
-  shown-volumes (some vs) s e = go (list_volumes 1 vs) refl e
+  shown-volumes None s e = not-accepted e
+  shown-volumes (Some vs) s e = go (list_volumes 1 vs) refl e
     where
       go : (l : Listed) → list_volumes 1 vs ≡ l → outcome_of_lines (unlimited c) l ≡ accepted s → listed_places c l ≡ map place_of (records_of c s)
       go (listed ls) q e = taken_places c ls s (lines-whole 0 vs ls q).running e
@@ -86,17 +85,17 @@ answer-refused : (class wire len : ℕ) (spool : List ℕ) (n v l : ℕ) → rea
 unfolding read_answer
 answer-refused class wire len spool n v l e = rw e
 
-ruled-at : (class wire : ℕ) (c : Class) (spool : List ℕ) → class_of class wire ≡ some c → ruled class wire spool ≡ outcome_of_volumes (unlimited c) (volumes_of spool)
+ruled-at : (class wire : ℕ) (c : Class) (spool : List ℕ) → class_of class wire ≡ Some c → ruled class wire spool ≡ outcome_of_volumes (unlimited c) (volumes_of spool)
 unfolding outcome_of
 ruled-at class wire c spool p = rw p
 
 -- a class or a wire part that is none: 1, whatever the table
-no-class : (class wire len : ℕ) (spool : List ℕ) → class_of class wire ≡ none → read_outcome class wire len spool ≡ refused 1 0 0
+no-class : (class wire len : ℕ) (spool : List ℕ) → class_of class wire ≡ None → read_outcome class wire len spool ≡ refused 1 0 0
 unfolding read_outcome
 no-class class wire len spool p = rw p
 
 -- ── a class that is one ──
-module _ (class wire : ℕ) (c : Class) (p : class_of class wire ≡ some c) (spool : List ℕ) where
+module _ (class wire : ℕ) (c : Class) (p : class_of class wire ≡ Some c) (spool : List ℕ) where
   abbrev ps : List Place
   ps = places_in c (volumes_of spool)
 
@@ -127,12 +126,12 @@ module _ (class wire : ℕ) (c : Class) (p : class_of class wire ≡ some c) (sp
       let size = shown-count s e in
       let reads : length (records_at class wire s) * width ≤ len → read_outcome class wire len spool ≡ accepted s = λ h. fits-table len (omega (arith, h, size)) ∙ e in
       record {
-        accepts = λ h. (taken len spool class wire c s p (reads h)).1 ∙ ap (λ rs. Accepted (length rs)) (sym (records-at s));
+        accepts = λ h. (taken len spool class wire c s p (reads h)).1 ∙ ap (λ rs. Ok (length rs)) (sym (records-at s));
         records = λ h. (taken len spool class wire c s p (reads h)).0 ∙ sym (records-at s);
         refuses = λ h. full-answer len (omega (arith, h, size)) ∙ ap (λ qs. no_room (first_out len qs)) (shown s e);
       }
 
-  only_kept_lem : (len n : ℕ) → read_answer class wire len spool ≡ Accepted n → Keeps class wire spool n × (n * width ≤ len)
+  only_kept_lem : (len n : ℕ) → read_answer class wire len spool ≡ Ok n → Keeps class wire spool n × (n * width ≤ len)
   only_kept_lem len n e = go (leb (length ps * width) len) refl
     where
       go : (t : Bool) → leb (length ps * width) len ≡ t → Keeps class wire spool n × (n * width ≤ len)
@@ -154,7 +153,7 @@ acceptance : (class wire : ℕ) (spool : List ℕ) → Acceptance class wire spo
 acceptance class wire spool = go (class_of class wire) refl
   where
     go : (o : Option Class) → class_of class wire ≡ o → Acceptance class wire spool
-    go none p =
+    go None p =
         let is : ruled class wire spool ≡ refused 1 0 0 = rw p in
         record {
           only_kept = λ len n e. let (s, q) = accepted-set class wire len spool n e in not-accepted (sym (no-class class wire len spool p) ∙ q);
@@ -167,7 +166,7 @@ acceptance class wire spool = go (class_of class wire) refl
             refuses = λ len h. absurd (omega (arith, h));
           };
         }
-    go (some c) p = record {
+    go (Some c) p = record {
       only_kept = only_kept_lem class wire c p spool;
       when_kept = when-kept class wire c p spool;
       when_broken = λ k v l e. record {
@@ -190,8 +189,8 @@ rewriter-accepts spool len =
     let is = ruled-full spool in
     let n = length (written spool) in
     record {
-      when_kept = λ s e h. ap (λ o. fit_output len n (answer_with n o)) (sym is ∙ e) ∙ ap (λ b. cond b (Accepted n) (refusal 20 0 0)) (le-leb n len h);
-      when_short = λ s e h. ap (λ o. fit_output len n (answer_with n o)) (sym is ∙ e) ∙ ap (λ b. cond b (Accepted n) (refusal 20 0 0)) (lt-leb n len h);
+      when_kept = λ s e h. ap (λ o. fit_output len n (answer_with n o)) (sym is ∙ e) ∙ ap (λ b. cond b (Ok n) (refusal 20 0 0)) (le-leb n len h);
+      when_short = λ s e h. ap (λ o. fit_output len n (answer_with n o)) (sym is ∙ e) ∙ ap (λ b. cond b (Ok n) (refusal 20 0 0)) (lt-leb n len h);
       when_broken = λ k v l e. ap (λ o. fit_output len n (answer_with n o)) (sym is ∙ e);
     }
 

@@ -1,9 +1,9 @@
 -- What is kept of the figures of a set while it is read, at every class: own serial numbers differ, a row `serial` holds a serial number and is
 -- there only where the class knows it, each wire's elements join as the file says, and wires are read or skipped as the class says.
+use Rattle.std.specs.Prelude.{Option, Some, None}
 use Prim.Native.Nat.{ℕ, zero, suc, ◌<◌}
 use mathlib.Core.Bool.{Bool, true, false, cond, not}
 use mathlib.Core.List.{List, [], ◌∷◌, ◌++◌, map, append-nil, append_assoc}
-use mathlib.Core.Option.{Option, none, some}
 use mathlib.Core.Path.{◌≡◌, refl, sym, subst}
 use lib.ListN.{get_or}
 use Rattle.rules.specs.declared.Class.{Class}
@@ -74,12 +74,12 @@ abbrev pub serial_slot : Held → Option Value
 serial_slot h = held "serial" placed_table (part_of h 0)
 
 abbrev pub wire_slot : Wire → Option Value
-wire_slot w = get_or w.own wire_serial_row none
+wire_slot w = get_or w.own wire_serial_row None
 
 -- it is there where the class knows it, and of its kind
 abbrev pub KnownSlot : Bool → (Value → Type 0) → Option Value → Type 0
-KnownSlot known Is none = Unit {0}
-KnownSlot known Is (some v) = (known ≡ true) × Is v
+KnownSlot known Is None = Unit {0}
+KnownSlot known Is (Some v) = (known ≡ true) × Is v
 
 -- a wire's line or arc is of one of the first two rows of its table
 abbrev pub EdgeRow : Edge → Type 0
@@ -96,7 +96,7 @@ module _ (c : Class) where
   pub record SoundWire (wires : ℕ) (w : Wire) : Type 0 where
     pub known : knows_wires c ≡ true
     pub rows : Each EdgeRow w.elements
-    pub joins : Behind (Joins wires) none w.elements
+    pub joins : Behind (Joins wires) None w.elements
     pub serial : WireSlot w
 
   abbrev pub SoundFigure : ℕ → Figure → Type 0
@@ -165,8 +165,8 @@ module _ (c : Class) where
       own-few (n ∷ ps) = tt
 
       number-few : (o : Option Value) → Few (own_number o)
-      number-few none = tt
-      number-few (some v) = tt
+      number-few None = tt
+      number-few (Some v) = tt
 
       few : (f : Figure) → Few (figure_serial f)
       few (plain n j v) = tt

@@ -1,8 +1,8 @@
 -- Every line keeps what is kept of the figures.
+use Rattle.std.specs.Prelude.{Option, Some, None}
 use Prim.Native.Nat.{ℕ, zero, suc, ◌+◌, ◌<◌}
 use mathlib.Core.Bool.{Bool, true, false, ◌&&◌, ◌||◌, not}
 use mathlib.Core.List.{List, [], ◌∷◌, append-nil}
-use mathlib.Core.Option.{Option, none, some}
 use mathlib.Core.Path.{◌≡◌, refl, sym, ap, subst}
 use native.Mathlib.Omega.{arith}
 use lib.Dec.{eqb, leb, ltb}
@@ -64,7 +64,7 @@ unfolding placed_table
 serial-least row z = at_row (λ q. q.least) row z
 
 -- ── one row of slots, where another is entered or this one ──
-set-either : (P : Option Value → Type 0) (s : Slots) (j i : ℕ) (v : Value) → P (get_or s i none) → (j ≡ i → P (some v)) → P (get_or (set s j (some v)) i none)
+set-either : (P : Option Value → Type 0) (s : Slots) (j i : ℕ) (v : Value) → P (get_or s i None) → (j ≡ i → P (Some v)) → P (get_or (set s j (Some v)) i None)
 set-either P [] j i v p q = p
 set-either P (o ∷ s) zero zero v p q = q refl
 set-either P (o ∷ s) zero (suc i) v p q = p
@@ -72,7 +72,7 @@ set-either P (o ∷ s) (suc j) zero v p q = p
 set-either P (o ∷ s) (suc j) (suc i) v p q = set-either P s j i v p (λ e. q (ap suc e))
 
 module _ (P : Option Value → Type 0) where
-  enter-either : (o : Held) (j : ℕ) (v : Value) → P (serial_slot o) → (j ≡ symbol_row → P (some v)) → P (serial_slot (enter o 0 j v))
+  enter-either : (o : Held) (j : ℕ) (v : Value) → P (serial_slot o) → (j ≡ symbol_row → P (Some v)) → P (serial_slot (enter o 0 j v))
   unfolding placed_table
   enter-either [] j v g h = g
   enter-either (own ∷ o) j v g h = set-either P own j symbol_row v g h
@@ -81,11 +81,11 @@ module _ (P : Option Value → Type 0) where
   inner-kept [] p j v g = g
   inner-kept (own ∷ o) p j v g = g
 
-  blank-kept : P none → P (serial_slot (blank_held placed_tables))
+  blank-kept : P None → P (serial_slot (blank_held placed_tables))
   unfolding placed_table
   blank-kept g = g
 
-  blank-wire : P none → P (wire_slot no_wire)
+  blank-wire : P None → P (wire_slot no_wire)
   unfolding wire_table
   blank-wire g = g
 
@@ -153,7 +153,7 @@ module _ (e : Env) (l : Line) where
   in-symbol : (s : Set) (y : Symbol) (f : Form) → J (symbol s y) → On J (on_symbol s y f)
   in-symbol s y f i =
       on-by_act J _ _ _ _ (act (known_of s) symbol_table (digits_of (define_range s)) (rows_there y.own) f) i
-      (λ j v. on-unless J (new_name s (symbol_own (set y.own j (some v)) y)) 15 _ λ _. i) (λ m j v b. open-symbol s (symbol_own (set y.own j (some v)) y) m i) i
+      (λ j v. on-unless J (new_name s (symbol_own (set y.own j (Some v)) y)) 15 _ λ _. i) (λ m j v b. open-symbol s (symbol_own (set y.own j (Some v)) y) m i) i
 
   in-hide : (s : Set) (y : Symbol) (ps : List Point) (f : Form) → J (hide s y ps) → On J (on_hide e l s y ps f)
   in-hide s y ps f i =
@@ -266,15 +266,15 @@ module _ (e : Env) (l : Line) where
       (i.0, i.1, (i.2.0, (now, i.2.1.1)))
 
   by-once : (s : Set) (k : ℕ) (fs : List Figure) (n : ℕ) (w : Wire) (p j : ℕ) (v : Value) → (j ≡ wire_serial_row → SerialRead e v) → new_number s fs j v ≡ true
-      → J (placing s k fs n (wire_block w) p) → J (placing s k fs n (wire_block (with_once (set w.own j (some v)) w)) 0)
+      → J (placing s k fs n (wire_block w) p) → J (placing s k fs n (wire_block (with_once (set w.own j (Some v)) w)) 0)
   by-once s k fs n w p j v r q i =
       let was = i.2.1.0 in
       let row = set-either (WireRow (numbers_so_far s fs)) w.own j wire_serial_row v (was.serial, i.2.1.1) (λ z. (r z, fresh z)) in
-      let now : SoundWire e.class (wire_range s) (with_once (set w.own j (some v)) w) = record { known = was.known; rows = was.rows; joins = was.joins; serial = row.0 } in
+      let now : SoundWire e.class (wire_range s) (with_once (set w.own j (Some v)) w) = record { known = was.known; rows = was.rows; joins = was.joins; serial = row.0 } in
       (i.0, i.1, (i.2.0, (now, row.1)))
     where
-      fresh : j ≡ wire_serial_row → none_of (own_number (some v)) (numbers_so_far s fs) ≡ true
-      fresh z = asked (eqb j wire_serial_row) (none_of (own_number (some v)) (numbers_so_far s fs)) q (eq-eqb j wire_serial_row z)
+      fresh : j ≡ wire_serial_row → none_of (own_number (Some v)) (numbers_so_far s fs) ≡ true
+      fresh z = asked (eqb j wire_serial_row) (none_of (own_number (Some v)) (numbers_so_far s fs)) q (eq-eqb j wire_serial_row z)
 
   in-wire : (s : Set) (k : ℕ) (fs : List Figure) (n : ℕ) (w : Wire) (p : ℕ) (f : Form) → J (placing s k fs n (wire_block w) p) → On J (on_wire e l s k fs n w p f)
   in-wire s k fs n w p f i =

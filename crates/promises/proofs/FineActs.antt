@@ -1,8 +1,8 @@
 -- Every refusal of a value, of a row and of an act has a number from 4 to 19, or 21.
+use Rattle.std.specs.Prelude.{Option, Some, None}
 use Prim.Native.Nat.{ℕ, ◌≤◌, min}
 use mathlib.Core.Bool.{Bool, true, false, cond, ◌&&◌, not}
 use mathlib.Core.List.{List, [], ◌∷◌}
-use mathlib.Core.Option.{Option, none, some}
 use native.Mathlib.Omega.{arith}
 use mathlib.Core.Path.{◌≡◌, refl, subst}
 use lib.Dec.{T, eqb, leb, leb→le}
@@ -58,8 +58,8 @@ module _ {A : Type 0} where
   fine-cond false g h p q = q
 
   pub fine-or : (n : ℕ) (o : Option A) → AtLine n → Fine (or_bad n o)
-  fine-or n none h = refuses n h
-  fine-or n (some a) h = answers
+  fine-or n None h = refuses n h
+  fine-or n (Some a) h = answers
 
   pub fine-keep : (n : ℕ) (p : A → Bool) (g : Got A) → AtLine n → Fine g → Fine (keep n p g)
   fine-keep n p (got a) h w = fine-unless (p a) n _ h answers

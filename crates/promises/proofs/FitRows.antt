@@ -1,8 +1,8 @@
 -- A line enters a row with what its kind holds: text in rows of text alone, and of that what S says where the line's content has it.
+use Rattle.std.specs.Prelude.{Option, Some, None}
 use Prim.Native.Nat.{ℕ, zero, suc, ◌+◌}
 use mathlib.Core.Bool.{Bool, true, false, ◌&&◌, not}
 use mathlib.Core.List.{List, [], ◌∷◌, ◌++◌, map}
-use mathlib.Core.Option.{Option, none, some}
 use mathlib.Core.Path.{◌≡◌, refl}
 use lib.Dec.{leb}
 use lib.ListN.{length, get_or, set}
@@ -54,7 +54,7 @@ module _ (S : ℕ → List ℕ → Type 0) where
   fit-blank [] = tt
   fit-blank (r ∷ t) = (tt, fit-blank t)
 
-  pub fit-set : {t : List Rule} {j : ℕ} {r : Rule} → Row t j r → (s : Slots) (v : Value) → FitSlots S t s → FitValue S r.holds v → FitSlots S t (set s j (some v))
+  pub fit-set : {t : List Rule} {j : ℕ} {r : Rule} → Row t j r → (s : Slots) (v : Value) → FitSlots S t s → FitValue S r.holds v → FitSlots S t (set s j (Some v))
   fit-set here [] v g x = g
   fit-set here (o ∷ s) v g x = (x, g.1)
   fit-set (there w) [] v g x = g
@@ -66,7 +66,7 @@ module _ (S : ℕ → List ℕ → Type 0) where
   fit_blanks (t ∷ ts) (suc p) = fit_blanks ts p
 
   pub fit-enter : (ts : List (List Rule)) (h : Held) (p : ℕ) {j : ℕ} {r : Rule} → Row (get_or ts p []) j r → (v : Value) → FitHeld S ts h → FitValue S r.holds v → FitHeld S ts (enter h p j v)
-  fit-enter ts h p {j} w v g x = go (λ q s. FitSlots S (get_or ts q []) s) h p (set (part_of h p) j (some v)) g (fit-set w (part_of h p) v (g p) x)
+  fit-enter ts h p {j} w v g x = go (λ q s. FitSlots S (get_or ts q []) s) h p (set (part_of h p) j (Some v)) g (fit-set w (part_of h p) v (g p) x)
     where
       go : (Q : ℕ → Slots → Type 0) (h : Held) (p : ℕ) (s : Slots) → ((q : ℕ) → Q q (get_or h q [])) → Q p s → (q : ℕ) → Q q (get_or (set h p s) q [])
       go Q [] p s k y q = k q
@@ -105,9 +105,9 @@ module _ (S : ℕ → List ℕ → Type 0) where
   plain-shape (equals at (b ∷ c)) h = go (stem (b ∷ c))
     where
       go : (o : Option (List ℕ)) → FitShape (by_stem at (b ∷ c) o)
-      go none = h
-      go (some []) = tt
-      go (some (a ∷ t)) = tt
+      go None = h
+      go (Some []) = tt
+      go (Some (a ∷ t)) = tt
 
   row-shape : (r : Rule) (c : Rest) → FitRest c → FitShape (shape_for r c)
   row-shape r c h = by_cond FitShape (is_free r.holds) (λ _. free-shape c h) (λ _. plain-shape c h)

@@ -1,8 +1,8 @@
 -- Sets in which only rows of text hold text, and what they hold of it is known: S says what of a text and its place.
+use Rattle.std.specs.Prelude.{Option, Some, None}
 use Prim.Native.Nat.{ℕ, ◌<◌}
 use mathlib.Core.Bool.{Bool, true, false}
 use mathlib.Core.List.{List, [], ◌∷◌}
-use mathlib.Core.Option.{Option, none, some}
 use mathlib.Core.Path.{◌≡◌}
 use lib.ListN.{get_or}
 use Rattle.rules.specs.Values.{Value, empty, nums, chars, linked, Kind, values, text, word, volume_name, sheet, ratio, serials, wire_serial, symbol_circle, nothing, opens, headed, either}
@@ -73,8 +73,8 @@ module _ (S : ℕ → List ℕ → Type 0) where
   FitValue d v = FitText (is_text d) (is_shown d) v
 
   abbrev pub FitSlot : Bool → Bool → Option Value → Type 0
-  FitSlot t b none = Unit {0}
-  FitSlot t b (some v) = FitText t b v
+  FitSlot t b None = Unit {0}
+  FitSlot t b (Some v) = FitText t b v
 
   abbrev pub FitSlots : List Rule → Slots → Type 0
   FitSlots [] s = Unit {0}

@@ -1,9 +1,9 @@
 -- In a set that was read only rows of text hold text: what `records-bare` asks of a set. And where S holds of what every line has behind
 -- its `=`, it holds of every text that a record shows.
+use Rattle.std.specs.Prelude.{Some}
 use Prim.Native.Nat.{ℕ, zero, suc, ◌+◌, ◌≤◌, ◌<◌}
 use mathlib.Core.Bool.{Bool, true, false, ◌&&◌, ◌||◌, not}
 use mathlib.Core.List.{List, [], ◌∷◌, ◌++◌, map}
-use mathlib.Core.Option.{some}
 use mathlib.Core.Path.{◌≡◌, refl, subst}
 use native.Mathlib.Omega.{arith}
 use lib.Dec.{eqb, leb, ltb}
@@ -165,8 +165,8 @@ module _ (S : ℕ → List ℕ → Type 0) where
   on_symbol-fit : (s : Set) (y : Symbol) (f : Form) → FitForm S f → FitState (symbol s y) → On FitState (on_symbol s y f)
   on_symbol-fit s y f x g =
       by-line (known_of s) symbol_table (digits_of (define_range s)) (rows_there y.own) f x (symbol s y) _ _ _ g
-      (λ j v w. on-unless FitState (new_name s (symbol_own (set y.own j (some v)) y)) 15 _ λ _. (g.0, g.1, (fit-set S w.1 y.own v g.2.0 w.2, g.2.1)))
-      (λ i j v w. open_symbol-fit s (symbol_own (set y.own j (some v)) y) i (g.0, g.1, (fit-set S w.1 y.own v g.2.0 w.2, g.2.1)))
+      (λ j v w. on-unless FitState (new_name s (symbol_own (set y.own j (Some v)) y)) 15 _ λ _. (g.0, g.1, (fit-set S w.1 y.own v g.2.0 w.2, g.2.1)))
+      (λ i j v w. open_symbol-fit s (symbol_own (set y.own j (Some v)) y) i (g.0, g.1, (fit-set S w.1 y.own v g.2.0 w.2, g.2.1)))
       ((g.0.0, each_more (FitSymbol S) s.symbols y g.0.1 g.2, g.0.2), g.1)
 
   on_hide-fit : (e : Env) (l : Line) (s : Set) (y : Symbol) (ps : List Point) (f : Form) → FitForm S f → FitState (hide s y ps) → On FitState (on_hide e l s y ps f)

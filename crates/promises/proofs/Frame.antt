@@ -1,8 +1,8 @@
 -- The lines of a volume and the volumes of a spool: what is written reads as the same lines and volumes, and what is read adds up.
+use Rattle.std.specs.Prelude.{Option, Some, None}
 use Prim.Native.Nat.{ℕ, zero, suc, ◌+◌, ◌-◌, ◌/◌, ◌%◌, ◌≤◌, ◌<◌, min}
 use mathlib.Core.Bool.{Bool, true, false, cond, ◌&&◌, not, true≢false}
 use mathlib.Core.List.{List, [], ◌∷◌, ◌++◌, map, append_assoc}
-use mathlib.Core.Option.{Option, none, some}
 use mathlib.Core.Path.{◌≡◌, refl, sym, ◌∙◌, ap, subst}
 use native.Mathlib.Omega.{arith}
 use lib.Dec.{eqb, leb}
@@ -16,20 +16,20 @@ use Rattle.rules.proofs.Chains.{map-some, and_left, and_right, and_true, same_re
 use Rattle.promises.proofs.Forms.{byte-not, by-choose, plain_byte, plain_line}
 
 -- ── lines ──
-line-from : (l t : List ℕ) (ls : List (List ℕ)) → lines_from false t ≡ some ls → plain_line l ≡ true → lines_from false (l ++ 13 ∷ 10 ∷ t) ≡ some (l ∷ ls)
+line-from : (l t : List ℕ) (ls : List (List ℕ)) → lines_from false t ≡ Some ls → plain_line l ≡ true → lines_from false (l ++ 13 ∷ 10 ∷ t) ≡ Some (l ∷ ls)
 line-from [] t ls r e = rw r
 line-from (b ∷ l) t ls r e =
     let o = and_left (plain_byte b) _ e in
     rw (byte-not plain_byte 13 refl b o, byte-not plain_byte 26 refl b o, byte-not plain_byte 10 refl b o, line-from l t ls r (and_right (plain_byte b) _ e))
 
-lines-from : (ls : List (List ℕ)) → all plain_line ls ≡ true → lines_from false (unlines ls) ≡ some ls
+lines-from : (ls : List (List ℕ)) → all plain_line ls ≡ true → lines_from false (unlines ls) ≡ Some ls
 lines-from [] e = refl
 lines-from (l ∷ ls) e = line-from l (unlines ls) ls (lines-from ls (and_right (plain_line l) _ e)) (and_left (plain_line l) _ e)
 
 abbrev pub short_line : List ℕ → Bool
 short_line l = leb (length l) most_in_line
 
-pub lines-back : (ls : List (List ℕ)) → all (λ l. plain_line l && leb (length l) most_in_line) ls ≡ true → lines_of (unlines ls) ≡ some ls
+pub lines-back : (ls : List (List ℕ)) → all (λ l. plain_line l && leb (length l) most_in_line) ls ≡ true → lines_of (unlines ls) ≡ Some ls
 unfolding lines_of
 lines-back ls e =
     rw (
@@ -39,44 +39,44 @@ lines-back ls e =
 
 -- ── what was read as lines ──
 -- from the start of a line or within it; and behind its CR
-lines_cut : (s : List ℕ) → ((ls : List (List ℕ)) → lines_from false s ≡ some ls → s ≡ unlines ls) × ((ls : List (List ℕ)) → lines_from true s ≡ some ls → 13 ∷ s ≡ unlines ls)
+lines_cut : (s : List ℕ) → ((ls : List (List ℕ)) → lines_from false s ≡ Some ls → s ≡ unlines ls) × ((ls : List (List ℕ)) → lines_from true s ≡ Some ls → 13 ∷ s ≡ unlines ls)
 lines_cut [] = (λ ls e. none-some e, λ ls e. none-some e)
 lines_cut (b ∷ s) =
     let i = lines_cut s in (
       λ ls e.
-          let P : Option (List (List ℕ)) → Type 0 = λ o. o ≡ some ls → b ∷ s ≡ unlines ls in
+          let P : Option (List (List ℕ)) → Type 0 = λ o. o ≡ Some ls → b ∷ s ≡ unlines ls in
           by-choose P (eqb b 13) _ _ (λ q z. ap (λ n. n ∷ s) (eqb-true b 13 q) ∙ i.1 ls z)
           (λ _. by-choose P (eqb b 26) _ _ (λ q z. ap (λ n. n ∷ s) (eqb-true b 26 q) ∙ end s ls z)
           (λ _. by-choose P (eqb b 10) _ _ (λ _ z. none-some z) (λ _ z. more (lines_from false s) ls i.0 z))) e,
       λ ls e.
-          by-choose (λ o. o ≡ some ls → 13 ∷ b ∷ s ≡ unlines ls) (eqb b 10) _ _
+          by-choose (λ o. o ≡ Some ls → 13 ∷ b ∷ s ≡ unlines ls) (eqb b 10) _ _
           (λ q z. ap (λ n. 13 ∷ n ∷ s) (eqb-true b 10 q) ∙ fresh (map-some (λ r. [] ∷ r) (lines_from false s) ls z) i.0)
           (λ _ z. none-some z) e,
     )
   where
-    end : (s : List ℕ) (ls : List (List ℕ)) → cond (is_nil s) (some []) none ≡ some ls → 26 ∷ s ≡ unlines ls
+    end : (s : List ℕ) (ls : List (List ℕ)) → cond (is_nil s) (Some []) None ≡ Some ls → 26 ∷ s ≡ unlines ls
     end [] ls e = let q : [] ≡ ls = cc in ap unlines q
     end (c ∷ s) ls e = none-some e
 
-    fresh : {o : Option (List (List ℕ))} {ls : List (List ℕ)} → (r : List (List ℕ)) × (o ≡ some r) × ([] ∷ r ≡ ls) → ((ls : List (List ℕ)) → o ≡ some ls → s ≡ unlines ls)
+    fresh : {o : Option (List (List ℕ))} {ls : List (List ℕ)} → (r : List (List ℕ)) × (o ≡ Some r) × ([] ∷ r ≡ ls) → ((ls : List (List ℕ)) → o ≡ Some ls → s ≡ unlines ls)
         → 13 ∷ 10 ∷ s ≡ unlines ls
     fresh (r, f, g) i = ap (λ t. 13 ∷ 10 ∷ t) (i r f) ∙ ap unlines g
 
-    more : (o : Option (List (List ℕ))) (ls : List (List ℕ)) → ((ls : List (List ℕ)) → o ≡ some ls → s ≡ unlines ls) → head_line b o ≡ some ls → b ∷ s ≡ unlines ls
-    more none ls i e = none-some e
-    more (some []) ls i e = none-some e
-    more (some (l ∷ r)) ls i e = let q : (b ∷ l) ∷ r ≡ ls = cc in ap (λ t. b ∷ t) (i (l ∷ r) refl) ∙ ap unlines q
+    more : (o : Option (List (List ℕ))) (ls : List (List ℕ)) → ((ls : List (List ℕ)) → o ≡ Some ls → s ≡ unlines ls) → head_line b o ≡ Some ls → b ∷ s ≡ unlines ls
+    more None ls i e = none-some e
+    more (Some []) ls i e = none-some e
+    more (Some (l ∷ r)) ls i e = let q : (b ∷ l) ∷ r ≡ ls = cc in ap (λ t. b ∷ t) (i (l ∷ r) refl) ∙ ap unlines q
 
-pub lines_inv : (b : List ℕ) (ls : List (List ℕ)) → lines_of b ≡ some ls → (b ≡ unlines ls) × (all (λ l. leb (length l) most_in_line) ls ≡ true)
+pub lines_inv : (b : List ℕ) (ls : List (List ℕ)) → lines_of b ≡ Some ls → (b ≡ unlines ls) × (all (λ l. leb (length l) most_in_line) ls ≡ true)
 unfolding lines_of
 lines_inv b ls e = go (lines_from false b) (lines_cut b).0 e
   where
-    go : (o : Option (List (List ℕ))) → ((ls : List (List ℕ)) → o ≡ some ls → b ≡ unlines ls) → short_lines o ≡ some ls → (b ≡ unlines ls) × (all short_line ls ≡ true)
-    go none f e = none-some e
-    go (some r) f e = short (all short_line r) refl e
+    go : (o : Option (List (List ℕ))) → ((ls : List (List ℕ)) → o ≡ Some ls → b ≡ unlines ls) → short_lines o ≡ Some ls → (b ≡ unlines ls) × (all short_line ls ≡ true)
+    go None f e = none-some e
+    go (Some r) f e = short (all short_line r) refl e
       where
-        short : (t : Bool) → all short_line r ≡ t → cond t (some r) none ≡ some ls → (b ≡ unlines ls) × (all short_line ls ≡ true)
-        short true h e = let q : r ≡ ls = cc in (f ls (ap some q), ap (all short_line) (sym q) ∙ h)
+        short : (t : Bool) → all short_line r ≡ t → cond t (Some r) None ≡ Some ls → (b ≡ unlines ls) × (all short_line ls ≡ true)
+        short true h e = let q : r ≡ ls = cc in (f ls (ap Some q), ap (all short_line) (sym q) ∙ h)
         short false h e = none-some e
 
 -- ── volumes ──
@@ -176,19 +176,19 @@ read_step k at h r vs g i =
 read_none : (k at : ℕ) → Read k at 0 []
 read_none k at = record { size = refl; placed = refl; named = refl; few = omega arith }
 
-volumes-read : (k at : ℕ) (s : List ℕ) (vs : List Volume) → volumes_from k at s ≡ some vs → Read k at (length s) vs
+volumes-read : (k at : ℕ) (s : List ℕ) (vs : List Volume) → volumes_from k at s ≡ Some vs → Read k at (length s) vs
 volumes-read zero at [] vs e = let q : [] ≡ vs = cc in subst (Read zero at 0) q (read_none zero at)
 volumes-read zero at (b ∷ s) vs e = none-some e
 volumes-read (suc k) at [] vs e = let q : [] ≡ vs = cc in subst (Read (suc k) at 0) q (read_none (suc k) at)
 volumes-read (suc k) at (b ∷ s) vs e = go (take 12 (b ∷ s)) (drop 12 (b ∷ s)) (length-take 12 (b ∷ s)) (length-drop 12 (b ∷ s)) (λ n t vs. volumes-read k n t vs) e
   where
     go : (h r : List ℕ) → length h ≡ min 12 (length (b ∷ s)) → length r ≡ length (b ∷ s) - 12
-        → ((n : ℕ) (t : List ℕ) (vs : List Volume) → volumes_from k n t ≡ some vs → Read k n (length t) vs)
-        → choose (good_head h r) (λ _. map_o (λ vs. volume_at at h r ∷ vs) (volumes_from k (at + 12 + length_of h) (drop (length_of h) r))) (λ _. none) ≡ some vs
+        → ((n : ℕ) (t : List ℕ) (vs : List Volume) → volumes_from k n t ≡ Some vs → Read k n (length t) vs)
+        → choose (good_head h r) (λ _. map_o (λ vs. volume_at at h r ∷ vs) (volumes_from k (at + 12 + length_of h) (drop (length_of h) r))) (λ _. None) ≡ Some vs
         → Read (suc k) at (length (b ∷ s)) vs
-    go h r p q ih e = by-choose (λ o. o ≡ some vs → Read (suc k) at (length (b ∷ s)) vs) (good_head h r) _ _ taken (λ _ z. none-some z) e
+    go h r p q ih e = by-choose (λ o. o ≡ Some vs → Read (suc k) at (length (b ∷ s)) vs) (good_head h r) _ _ taken (λ _ z. none-some z) e
       where
-        taken : good_head h r ≡ true → map_o (λ vs. volume_at at h r ∷ vs) (volumes_from k (at + 12 + length_of h) (drop (length_of h) r)) ≡ some vs → Read (suc k) at (length (b ∷ s)) vs
+        taken : good_head h r ≡ true → map_o (λ vs. volume_at at h r ∷ vs) (volumes_from k (at + 12 + length_of h) (drop (length_of h) r)) ≡ Some vs → Read (suc k) at (length (b ∷ s)) vs
         taken g z =
             let (us, f, w) = map-some (λ vs. volume_at at h r ∷ vs) (volumes_from k (at + 12 + length_of h) (drop (length_of h) r)) vs z in
             let m = eqb-true (length h) 12 (and_left (eqb (length h) 12) _ (and_left (marked h) _ (and_left (marked h && good_name (take 8 (drop 2 h))) _ g))) in
@@ -205,18 +205,18 @@ pub record Spooled (s : List ℕ) (vs : List Volume) : Type 0 where
   pub few : length vs ≤ most_volumes
   pub fits : length s ≤ most_bytes
 
-pub volumes_inv : (s : List ℕ) (vs : List Volume) → volumes_of s ≡ some vs → Spooled s vs
+pub volumes_inv : (s : List ℕ) (vs : List Volume) → volumes_of s ≡ Some vs → Spooled s vs
 unfolding volumes_of
 volumes_inv s vs e =
-    by-choose (λ o. o ≡ some vs → Spooled s vs) (within 1 most_bytes (length s)) _ _
+    by-choose (λ o. o ≡ Some vs → Spooled s vs) (within 1 most_bytes (length s)) _ _
     (λ w. sound (volumes_from most_volumes 0 s) (volumes-read most_volumes 0 s) (leb-true (length s) most_bytes (and_right (leb 1 (length s)) _ w)))
     (λ _ z. none-some z) e
   where
-    sound : (o : Option (List Volume)) → ((us : List Volume) → o ≡ some us → Read most_volumes 0 (length s) us) → length s ≤ most_bytes → sound_volumes o ≡ some vs → Spooled s vs
-    sound none i h e = none-some e
-    sound (some us) i h e = go (not (is_nil us) && distinct (names_of us)) refl e
+    sound : (o : Option (List Volume)) → ((us : List Volume) → o ≡ Some us → Read most_volumes 0 (length s) us) → length s ≤ most_bytes → sound_volumes o ≡ Some vs → Spooled s vs
+    sound None i h e = none-some e
+    sound (Some us) i h e = go (not (is_nil us) && distinct (names_of us)) refl e
       where
-        go : (t : Bool) → (not (is_nil us) && distinct (names_of us)) ≡ t → cond t (some us) none ≡ some vs → Spooled s vs
+        go : (t : Bool) → (not (is_nil us) && distinct (names_of us)) ≡ t → cond t (Some us) None ≡ Some vs → Spooled s vs
         go false p e = none-some e
         go true p e =
             let q : us ≡ vs = cc in
@@ -280,12 +280,12 @@ volumes-step k at [] r e g = absurd (omega arith)
 volumes-step k at (b ∷ h) r e g = go (take 12 (b ∷ h ++ r)) (drop 12 (b ∷ h ++ r)) (take_at (b ∷ h) r 12 e) (drop_at (b ∷ h) r 12 e)
   where
     go : (h' r' : List ℕ) → h' ≡ b ∷ h → r' ≡ r
-        → choose (good_head h' r') (λ _. map_o (λ vs. volume_at at h' r' ∷ vs) (volumes_from k (at + 12 + length_of h') (drop (length_of h') r'))) (λ _. none)
+        → choose (good_head h' r') (λ _. map_o (λ vs. volume_at at h' r' ∷ vs) (volumes_from k (at + 12 + length_of h') (drop (length_of h') r'))) (λ _. None)
         ≡ map_o (λ vs. volume_at at (b ∷ h) r ∷ vs) (volumes_from k (at + 12 + length_of (b ∷ h)) (drop (length_of (b ∷ h)) r))
     go h' r' p q = rw (p, q, g)
 
 volumes-from : (k at : ℕ) (names bodies : List (List ℕ)) → length names ≡ length bodies → length names ≤ k → all is_name names ≡ true → total (λ b. 12 + length b) bodies < 65536
-    → volumes_from k at (framed names bodies) ≡ some (laid at names bodies)
+    → volumes_from k at (framed names bodies) ≡ Some (laid at names bodies)
 volumes-from zero at [] [] e h g f = refl
 volumes-from (suc k) at [] [] e h g f = refl
 volumes-from k at (n ∷ names) [] e h g f = absurd (omega arith)
@@ -309,7 +309,7 @@ bodies-fewer [] = omega arith
 bodies-fewer (b ∷ bodies) = omega (arith, bodies-fewer bodies)
 
 pub volumes-back : (names bodies : List (List ℕ)) → length names ≡ length bodies → 1 ≤ length names → length names ≤ most_volumes → all is_name names ≡ true → distinct names ≡ true
-    → length (framed names bodies) ≤ most_bytes → volumes_of (framed names bodies) ≡ some (laid 0 names bodies)
+    → length (framed names bodies) ≤ most_bytes → volumes_of (framed names bodies) ≡ Some (laid 0 names bodies)
 unfolding volumes_of
 volumes-back names bodies e one few good d h =
     let f = framed-length names bodies e in

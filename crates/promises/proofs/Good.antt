@@ -1,8 +1,8 @@
 -- What is true of everything that was read at class 15: each line that the fixed form writes of it reads as the same again.
+use Rattle.std.specs.Prelude.{Option, Some, None}
 use Prim.Native.Nat.{ℕ, zero, suc, ◌+◌}
 use mathlib.Core.Bool.{Bool, true, false, cond, ◌&&◌, ◌||◌, not}
 use mathlib.Core.List.{List, [], ◌∷◌, ◌++◌, map}
-use mathlib.Core.Option.{Option, none, some}
 use mathlib.Core.Path.{◌≡◌}
 use lib.Dec.{eqb, leb}
 use lib.ListN.{length, get_or}
@@ -56,8 +56,8 @@ abbrev pub GoodSlots : (Rule → Value → Type 0) → List Rule → Slots → T
 GoodSlots P [] [] = Unit {0}
 GoodSlots P [] (o ∷ s) = ⊥
 GoodSlots P (r ∷ t) [] = ⊥
-GoodSlots P (r ∷ t) (none ∷ s) = GoodSlots P t s
-GoodSlots P (r ∷ t) (some v ∷ s) = P r v × GoodSlots P t s
+GoodSlots P (r ∷ t) (None ∷ s) = GoodSlots P t s
+GoodSlots P (r ∷ t) (Some v ∷ s) = P r v × GoodSlots P t s
 
 pub good-blank : (P : Rule → Value → Type 0) (t : List Rule) → GoodSlots P t (blank t)
 good-blank P [] = tt
@@ -65,8 +65,8 @@ good-blank P (r ∷ t) = good-blank P t
 
 -- one slot
 abbrev pub InSlot : (Rule → Value → Type 0) → Rule → Option Value → Type 0
-InSlot P r none = Unit {0}
-InSlot P r (some v) = P r v
+InSlot P r None = Unit {0}
+InSlot P r (Some v) = P r v
 
 -- a closed block of the table t: its slots are good, and nothing required at d is missing
 pub record Closed (P : Rule → Value → Type 0) (d : Digits) (t : List Rule) (s : Slots) : Type 0 where
@@ -83,8 +83,8 @@ none0 = digits 0 0
 
 -- ── FILE_FORMAT ──
 abbrev pub is_one : Option Value → Bool
-is_one none = false
-is_one (some v) = eqb (amount_at v 0) 1
+is_one None = false
+is_one (Some v) = eqb (amount_at v 0) 1
 
 pub record GoodFile (h : Held) : Type 0 where
   pub own : Slots
@@ -96,8 +96,8 @@ pub record GoodFile (h : Held) : Type 0 where
   pub own-good : Closed (Always none0) none0 file_table own
   pub range-good : Closed (Always none0) none0 range_table range
   pub base-good : Closed (Always none0) none0 base_table base
-  pub elec-good : GoodPart (is_one (get_or range 2 none)) (Always none0) none0 elec_table elec
-  pub sym-good : GoodPart (is_one (get_or range 5 none)) (Always none0) none0 sym_table sym
+  pub elec-good : GoodPart (is_one (get_or range 2 None)) (Always none0) none0 elec_table elec
+  pub sym-good : GoodPart (is_one (get_or range 5 None)) (Always none0) none0 sym_table sym
 
 pub record GoodLater (h : Held) : Type 0 where
   pub own : Slots
@@ -114,7 +114,7 @@ pub record GoodPlaced (k : Known) (d : Digits) (h : Held) : Type 0 where
   pub text : Slots
   pub is : h ≡ own ∷ text ∷ []
   pub own-good : Closed (GoodRow k d) (both full_class.symbols d) placed_table own
-  pub text-good : GoodPart (is_some (get_or own 1 none)) (Always none0) none0 (text_table true 16 24) text
+  pub text-good : GoodPart (is_some (get_or own 1 None)) (Always none0) none0 (text_table true 16 24) text
 
 -- a line of row j of a table
 pub record GoodLine (P : Rule → Value → Type 0) (t : List Rule) (j : ℕ) (v : List Num) : Type 0 where
@@ -181,7 +181,7 @@ pub record GoodGroups (d : Digits) (gs : List (List (List Num))) : Type 0 where
 
 -- open or closed: its elements, its rows that repeat, its texts, its rows that stand once
 pub record WireParts (wires : ℕ) (es : List Edge) (gs : List (List (List Num))) (ss : List Slots) (o : Slots) : Type 0 where
-  pub elements : GoodEdges wires none es
+  pub elements : GoodEdges wires None es
   pub groups : GoodGroups (digits_of wires) gs
   pub texts : GoodTexts (digits_of wires) ss
   pub own : GoodSlots (Always (digits_of wires)) wire_table o
@@ -303,7 +303,7 @@ GoodDefines se d ys = GoodSymbols se d ys × (fresh [] (map symbol_name_of ys) �
 
 -- ── layers in use, volumes ──
 pub record GoodBlock (k : Known) (x : Ranges) (u : LayerBlock) : Type 0 where
-  pub here : index_of (get_or k.layers u.layer []) k.layers ≡ some u.layer
+  pub here : index_of (get_or k.layers u.layer []) k.layers ≡ Some u.layer
   pub id : is_layer_id (get_or k.layers u.layer []) ≡ true
   pub figures : GoodFigures k x u.figures
 

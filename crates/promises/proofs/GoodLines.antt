@@ -1,8 +1,8 @@
 -- Every line that the fixed form of a good set writes has allowed bytes, at most 512 of them; and the fixed form has the set's volumes, none without lines.
+use Rattle.std.specs.Prelude.{Option, Some, None}
 use Prim.Native.Nat.{ℕ, zero, suc}
 use mathlib.Core.Bool.{Bool, true, false, ◌&&◌, not, true≢false}
 use mathlib.Core.List.{List, [], ◌∷◌, ◌++◌}
-use mathlib.Core.Option.{Option, none, some}
 use mathlib.Core.Path.{◌≡◌, refl, sym, ap, subst}
 use native.Mathlib.Omega.{arith}
 use lib.Dec.{leb}
@@ -48,19 +48,19 @@ abbrev Fine : Known → Rule → Value → Type 0
 Fine k r v = fine (line_of k r v) ≡ true
 
 slots_open : (P : Rule → Value → Type 0) (r : Rule) (t : List Rule) (o : Option Value) (s : Slots) → GoodSlots P (r ∷ t) (o ∷ s) → InSlot P r o × GoodSlots P t s
-slots_open P r t none s g = (tt, g)
-slots_open P r t (some v) s g = g
+slots_open P r t None s g = (tt, g)
+slots_open P r t (Some v) s g = g
 
 slots-join : (P : Rule → Value → Type 0) (r : Rule) (t : List Rule) (o : Option Value) (s : Slots) → InSlot P r o → GoodSlots P t s → GoodSlots P (r ∷ t) (o ∷ s)
-slots-join P r t none s p g = g
-slots-join P r t (some v) s p g = (p, g)
+slots-join P r t None s p g = g
+slots-join P r t (Some v) s p g = (p, g)
 
 slots_weaken : (P Q : Rule → Value → Type 0) → ((r : Rule) (v : Value) → P r v → Q r v) → (t : List Rule) (s : Slots) → GoodSlots P t s → GoodSlots Q t s
 slots_weaken P Q f [] [] g = tt
 slots_weaken P Q f [] (o ∷ s) g = absurd g
 slots_weaken P Q f (r ∷ t) [] g = absurd g
-slots_weaken P Q f (r ∷ t) (none ∷ s) g = slots_weaken P Q f t s g
-slots_weaken P Q f (r ∷ t) (some v ∷ s) g = (f r v g.0, slots_weaken P Q f t s g.1)
+slots_weaken P Q f (r ∷ t) (None ∷ s) g = slots_weaken P Q f t s g
+slots_weaken P Q f (r ∷ t) (Some v ∷ s) g = (f r v g.0, slots_weaken P Q f t s g.1)
 
 -- a table's second and third row exchanged
 slots-exchanged : (P : Rule → Value → Type 0) (b : Bool) (p q r : Rule) (t : List Rule) (s : Slots) → GoodSlots P (p ∷ q ∷ r ∷ t) s
@@ -85,8 +85,8 @@ part-slots k false d e t s g = rw g (good-blank (Fine k) t)
 slots-keep : (k : Known) (t : List Rule) (s : Slots) (inner : ℕ → Text → Text) → ((i : ℕ) → Keeps (inner i)) → GoodSlots (Fine k) t s → Keeps (show_slots k t s inner)
 slots-keep k [] s inner f g ls e = e
 slots-keep k (r ∷ t) [] inner f g ls e = e
-slots-keep k (r ∷ t) (none ∷ s) inner f g ls e = slots-keep k t s inner f g ls e
-slots-keep k (r ∷ t) (some v ∷ s) inner f g ls e =
+slots-keep k (r ∷ t) (None ∷ s) inner f g ls e = slots-keep k t s inner f g ls e
+slots-keep k (r ∷ t) (Some v ∷ s) inner f g ls e =
     let i = slots-keep k t s inner f g.1 ls e in
     and_true _ _ g.0 (by_cond (λ (l : Text). all fine l ≡ true) (opens_block r.holds v) (λ _. f (inner_of r.holds) (bytes "}" ∷ show_slots k t s inner ls) i) (λ _. i))
 
@@ -110,8 +110,8 @@ file-keeps k h g = rw g.is (held_keeps k (file_tables true) (g.own ∷ g.range �
     parts zero = always-slots k none0 file_table g.own g.own-good.good
     parts (suc zero) = always-slots k none0 range_table g.range g.range-good.good
     parts (suc (suc zero)) = always-slots k none0 base_table g.base g.base-good.good
-    parts (suc (suc (suc zero))) = part-slots k (is_one (get_or g.range 2 none)) none0 none0 elec_table g.elec g.elec-good
-    parts (suc (suc (suc (suc zero)))) = part-slots k (is_one (get_or g.range 5 none)) none0 none0 sym_table g.sym g.sym-good
+    parts (suc (suc (suc zero))) = part-slots k (is_one (get_or g.range 2 None)) none0 none0 elec_table g.elec g.elec-good
+    parts (suc (suc (suc (suc zero)))) = part-slots k (is_one (get_or g.range 5 None)) none0 none0 sym_table g.sym g.sym-good
     parts (suc (suc (suc (suc (suc i))))) = tt
 
 later-keeps : (k : Known) (h : Held) → GoodLater h → Keeps (show_held k (file_tables false) h)
@@ -134,14 +134,14 @@ placed-keeps k d h g = rw g.is (held_keeps k placed_tables (g.own ∷ g.text ∷
   where
     parts : (i : ℕ) → GoodSlots (Fine k) (get_or placed_tables i []) (part_of (g.own ∷ g.text ∷ []) i)
     parts zero = slots_weaken (GoodRow k d) (Fine k) (row_fine k d) placed_table g.own g.own-good.good
-    parts (suc zero) = part-slots k (is_some (get_or g.own 1 none)) none0 none0 (text_table true 16 24) g.text g.text-good
+    parts (suc zero) = part-slots k (is_some (get_or g.own 1 None)) none0 none0 (text_table true 16 24) g.text g.text-good
     parts (suc (suc i)) = tt
 
 edges-keep : (k : Known) (wires : ℕ) (former : Option Edge) (es : List Edge) → GoodEdges wires former es → Keeps (show_edges k es)
 edges-keep k wires former [] g ls e = e
 edges-keep k wires former (u ∷ es) g ls e =
     let line = g.0.line in
-    rw (row_at line.row _) (and_true _ _ (row_fine k (digits_of wires) line.rule (nums u.values) (line.good k)) (edges-keep k wires (some u) es g.1 ls e))
+    rw (row_at line.row _) (and_true _ _ (row_fine k (digits_of wires) line.rule (nums u.values) (line.good k)) (edges-keep k wires (Some u) es g.1 ls e))
 
 group-keeps : (k : Known) (d : Digits) (j : ℕ) (before vs : List (List Num)) → GoodGroup d j before vs → Keeps (show_group k (rule_at wire_table j) vs)
 group-keeps k d j before [] g ls e = e
@@ -160,7 +160,7 @@ wire-keeps : (k : Known) (wires : ℕ) (w : Wire) → GoodWire wires w → Keeps
 wire-keeps k wires w g ls e =
     let h = g.holds in
     let d = digits_of wires in
-    edges-keep k wires none w.elements h.elements _
+    edges-keep k wires None w.elements h.elements _
     (rw h.groups.are
     (group-keeps k d 2 [] h.groups.direcs h.groups.direcs-good _
     (group-keeps k d 3 [] h.groups.piends h.groups.piends-good _

@@ -1,4 +1,5 @@
 -- What a host written in C learns from a call, from the contracts of the three functions and the theorems of the demands.
+use Rattle.std.specs.Prelude.{Result, Ok, Err}
 use Prim.Native.Nat.{ℕ, ◌*◌, ◌<◌}
 use mathlib.Core.Bool.{Bool, true}
 use mathlib.Core.List.{List}
@@ -6,8 +7,6 @@ use mathlib.Core.Path.{◌≡◌, sym, ◌∙◌, ap, subst}
 use native.Mathlib.Omega.{arith}
 use lib.ListN.{length}
 use Rattle.rules.specs.declared.Refusal.{Refusal}
-use Rattle.rules.specs.declared.Answer.{Answer}
-use Rattle.rules.specs.declared.Answer.TheVariants.{Accepted, Refused}
 use Rattle.rules.specs.RecordTable.{width}
 use Rattle.rules.specs.Answers.{answer_count, read_answer, rewrite_answer, written, own_records, packed, check_answer}
 use Rattle.promises.specs.DemandOne.{by_reader, by_rewriter, Located, Answered, refused_with}
@@ -23,25 +22,25 @@ use Rattle.promises.proofs.Round.{written_back}
 
 -- ── a number and its answer ──
 -- what is accepted has the number 0, what is refused another
-none-packed : (a : Answer) (n : ℕ) → a ≡ Accepted n → packed a ≡ 0
+none-packed : (a : Result ℕ Refusal) (n : ℕ) → a ≡ Ok n → packed a ≡ 0
 unfolding packed
 none-packed a n e = ap packed e
 
-refusal_located : {whose : ℕ → Bool} (r : Refusal) → Answered whose (Refused r) → Located whose r
+refusal_located : {whose : ℕ → Bool} (r : Refusal) → Answered whose (Err r) → Located whose r
 refusal_located r (refused_with _ w) = w
 
-some-packed : (whose : ℕ → Bool) (a : Answer) → Answered whose a → (r : Refusal) → a ≡ Refused r → 0 < packed a
+some-packed : (whose : ℕ → Bool) (a : Result ℕ Refusal) → Answered whose a → (r : Refusal) → a ≡ Err r → 0 < packed a
 unfolding packed
 some-packed whose a w r e =
     let located = refusal_located r (subst (Answered whose) e w) in
-    subst (λ (b : Answer). 0 < packed b) (sym e) (omega (arith, located.least))
+    subst (λ (b : Result ℕ Refusal). 0 < packed b) (sym e) (omega (arith, located.least))
 
 -- a refusal that a number tells is one that an answer may be
-tells_located : (whose : ℕ → Bool) (p : ℕ) (a : Answer) → Tells p a → Answered whose a → 0 < p → Located whose (refusal_in p)
+tells_located : (whose : ℕ → Bool) (p : ℕ) (a : Result ℕ Refusal) → Tells p a → Answered whose a → 0 < p → Located whose (refusal_in p)
 tells_located whose p a t w h = refusal_located (refusal_in p) (subst (Answered whose) (t.refused h) w)
 
 -- ── the check ──
-check-zero : (class wire : ℕ) (spool : List ℕ) (n : ℕ) → read_answer class wire (own_records * width) spool ≡ Accepted n → check_answer class wire spool ≡ 0
+check-zero : (class wire : ℕ) (spool : List ℕ) (n : ℕ) → read_answer class wire (own_records * width) spool ≡ Ok n → check_answer class wire spool ≡ 0
 unfolding check_answer
 check-zero class wire spool n e = none-packed (read_answer class wire (own_records * width) spool) n e
 
@@ -60,15 +59,15 @@ checked c =
 
 -- ── the reader ──
 module _ (c : HostRead) where
-  abbrev read_as : Answer
+  abbrev read_as : Result ℕ Refusal
   read_as = read_answer c.class c.wire (length c.before) c.spool
 
   read-tells : Tells c.number read_as
   read-tells = subst (λ (p : ℕ). Tells p read_as) (sym c.answers) (taken-apart.reader c.class c.wire (length c.before) c.spool)
 
   -- accepted: with the count that is given back
-  read-accepted : c.number ≡ 0 → read_as ≡ Accepted c.count
-  read-accepted e = read-tells.accepted e ∙ ap Accepted (sym c.counts)
+  read-accepted : c.number ≡ 0 → read_as ≡ Ok c.count
+  read-accepted e = read-tells.accepted e ∙ ap Ok (sym c.counts)
 
 reads : (c : HostRead) → HostReads c
 reads c =
@@ -94,7 +93,7 @@ rewrites c =
       when_refused = tells_located by_rewriter c.number a t call.answer;
       no_count = λ h. c.counts ∙ ap answer_count (t.refused h);
       zeros = λ h. call.when_refused (refusal_in c.number) (t.refused h);
-      when_accepted = λ e. call.when_accepted c.count (t.accepted e ∙ ap Accepted (sym c.counts));
+      when_accepted = λ e. call.when_accepted c.count (t.accepted e ∙ ap Ok (sym c.counts));
       when_kept = λ n k h.
           let short = (written_back c.spool k.set (sym (ruled-full c.spool) ∙ k.rules)).no_longer in
           c.answers ∙ none-packed a (length (written c.spool)) (call.when_kept k.set k.rules (omega (arith, h, short)));
@@ -116,5 +115,5 @@ higher_host-refuses lower higher two h =
     let same : w.refusal ≡ refusal_in higher.number = refused-same (sym w.answer ∙ (read-tells higher).refused above) in
     (above, subst (λ (q : Refusal). at_or_before q (refusal_in lower.number) ≡ true) same w.place, w.table)
   where
-    refused-same : {q r : Refusal} → Refused q ≡ Refused r → q ≡ r
+    refused-same : {q r : Refusal} → ◌≡◌ {A = Result ℕ Refusal} (Err q) (Err r) → q ≡ r
     refused-same e = cc

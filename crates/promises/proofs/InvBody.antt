@@ -1,8 +1,8 @@
 -- A line in ELEMENT, in a layer or a symbol's element, and in the figures that are blocks keeps the invariant.
+use Rattle.std.specs.Prelude.{Option, Some, None}
 use Prim.Native.Nat.{ℕ, zero, suc, ◌≤◌, ◌+◌}
 use mathlib.Core.Bool.{Bool, true, false, cond, ◌||◌, not}
 use mathlib.Core.List.{List, [], ◌∷◌, ◌++◌, map, append-nil, append_assoc}
-use mathlib.Core.Option.{Option, none, some}
 use mathlib.Core.Path.{◌≡◌, refl, sym, ◌∙◌, ap, subst}
 use native.Mathlib.Omega.{arith}
 use lib.Dec.{eqb, leb, ltb}
@@ -44,15 +44,15 @@ use Rattle.promises.proofs.Nameless.{nameless}
 -- ── ELEMENT ──
 -- the layer that a LAYER line names
 layer-read : (k : Known) (at : ℕ) (c : List ℕ) (v : Value) → read_kind k (headed 1 layer_id) at c ≡ got v
-    → (index_of (get_or k.layers (amount_at v 0) []) k.layers ≡ some (amount_at v 0)) × (is_layer_id (get_or k.layers (amount_at v 0) []) ≡ true)
+    → (index_of (get_or k.layers (amount_at v 0) []) k.layers ≡ Some (amount_at v 0)) × (is_layer_id (get_or k.layers (amount_at v 0) []) ≡ true)
 layer-read k at c v e =
     let (a, e1, q1) = map-got (λ (n : Num). nums (n ∷ [])) (read_part k layer_id c) v e in
     let (id, e2) = unless-got (is_layer_id c) 11 (natural (or_bad 14 (index_of c k.layers))) a e1 in
     let (m, e3, q2) = map-got (λ (n : ℕ). num (pos n)) (or_bad 14 (index_of c k.layers)) a e2 in
     go a m q1 q2 id (or-got 14 (index_of c k.layers) m e3)
   where
-    go : (a : Num) (m : ℕ) → nums (a ∷ []) ≡ v → num (pos m) ≡ a → is_layer_id c ≡ true → index_of c k.layers ≡ some m
-        → (index_of (get_or k.layers (amount_at v 0) []) k.layers ≡ some (amount_at v 0)) × (is_layer_id (get_or k.layers (amount_at v 0) []) ≡ true)
+    go : (a : Num) (m : ℕ) → nums (a ∷ []) ≡ v → num (pos m) ≡ a → is_layer_id c ≡ true → index_of c k.layers ≡ Some m
+        → (index_of (get_or k.layers (amount_at v 0) []) k.layers ≡ Some (amount_at v 0)) × (is_layer_id (get_or k.layers (amount_at v 0) []) ≡ true)
     go a m q p id e =
         let is : m ≡ amount_at v 0 = ap (λ (n : Num). amount_at (nums (n ∷ [])) 0) p ∙ ap (λ (v : Value). amount_at v 0) q in
         let same = name-same c k.layers m e in
@@ -104,14 +104,14 @@ HomeGood s (in_element y) f = GoodShape (range_of s) f
 HomeGood s (in_layer n) f = GoodFigure (known_of s) (ranges_of s) f
 
 own_add : (o : Option Value) (s : List ℕ) → fresh_numbers [] s ≡ true → none_of (own_number o) s ≡ true → fresh_numbers [] (s ++ own_number o) ≡ true
-own_add none s g e = rw (append-nil s) g
-own_add (some v) s g e = number_more s (amount_at v 0) g (not-true (has_number (amount_at v 0) s) (and_left (not (has_number (amount_at v 0) s)) _ e))
+own_add None s g e = rw (append-nil s) g
+own_add (Some v) s g e = number_more s (amount_at v 0) g (not-true (has_number (amount_at v 0) s) (and_left (not (has_number (amount_at v 0) s)) _ e))
 
 serial_add : (f : Figure) (s : List ℕ) → fresh_numbers [] s ≡ true → none_of (figure_serial f) s ≡ true → fresh_numbers [] (s ++ figure_serial f) ≡ true
 serial_add (plain n j v) s g e = rw (append-nil s) g
 serial_add (chain n ps) s g e = rw (append-nil s) g
 serial_add (lettering n o) s g e = rw (append-nil s) g
-serial_add (wired n w) s g e = own_add (get_or w.own wire_serial_row none) s g e
+serial_add (wired n w) s g e = own_add (get_or w.own wire_serial_row None) s g e
 serial_add (passed n) s g e = rw (append-nil s) g
 serial_add (placed n h) s g e = serial-more s (serials_of (slot_value (held "serial" placed_table (part_of h 0)))) g e
 

@@ -1,8 +1,8 @@
 -- What FILE_FORMAT holds while it is read, and that it is good when it closes.
+use Rattle.std.specs.Prelude.{Some, None}
 use Prim.Native.Nat.{ℕ, zero, suc, ◌≤◌}
 use mathlib.Core.Bool.{Bool, true, false, ◌||◌, not, true≢false}
 use mathlib.Core.List.{List, [], ◌∷◌}
-use mathlib.Core.Option.{none, some}
 use mathlib.Core.Path.{◌≡◌, refl, sym, ◌∙◌, ap, subst}
 use native.Mathlib.Omega.{arith}
 use lib.Dec.{eqb}
@@ -22,10 +22,10 @@ use Rattle.promises.proofs.InvParts.{HeldPart, part-seen, part-shut, part_open, 
 pub record Parts (p : ℕ) (own range base elec sym : Slots) : Type 0 where
   pub low : p ≤ 4
   pub own-good : GoodSlots (Always none0) file_table own
-  pub range-good : HeldPart (not (eqb p 0)) (is_some (get_or own 0 none)) (Always none0) range_table range
-  pub base-good : HeldPart (eqb p 2) (is_some (get_or range 0 none)) (Always none0) base_table base
-  pub elec-good : HeldPart (eqb p 3) (is_one (get_or range 2 none)) (Always none0) elec_table elec
-  pub sym-good : HeldPart (eqb p 4) (is_one (get_or range 5 none)) (Always none0) sym_table sym
+  pub range-good : HeldPart (not (eqb p 0)) (is_some (get_or own 0 None)) (Always none0) range_table range
+  pub base-good : HeldPart (eqb p 2) (is_some (get_or range 0 None)) (Always none0) base_table base
+  pub elec-good : HeldPart (eqb p 3) (is_one (get_or range 2 None)) (Always none0) elec_table elec
+  pub sym-good : HeldPart (eqb p 4) (is_one (get_or range 5 None)) (Always none0) sym_table sym
 
 pub record FirstInv (p : ℕ) (h : Held) : Type 0 where
   pub own : Slots
@@ -155,10 +155,10 @@ parts-begin {k} {i} {j} {v} zero own range base elec sym f w =
     }))
 parts-begin {k} {i} {j} {v} (suc zero) own range base elec sym f w = go (eqb j 0) refl (eqb j 2) refl (eqb j 5) refl (open_at (λ j. eqb j 0 || (eqb j 2 || eqb j 5)) w refl)
   where
-    good : GoodSlots (Always none0) range_table (set range j (some v))
+    good : GoodSlots (Always none0) range_table (set range j (Some v))
     good = took-set range none0 (file-nameless true 1) w f.range-good.0
 
-    go : (a : Bool) → eqb j 0 ≡ a → (b : Bool) → eqb j 2 ≡ b → (c : Bool) → eqb j 5 ≡ c → (a || (b || c)) ≡ true → FirstInv i (own ∷ set range j (some v) ∷ base ∷ elec ∷ sym ∷ [])
+    go : (a : Bool) → eqb j 0 ≡ a → (b : Bool) → eqb j 2 ≡ b → (c : Bool) → eqb j 5 ≡ c → (a || (b || c)) ≡ true → FirstInv i (own ∷ set range j (Some v) ∷ base ∷ elec ∷ sym ∷ [])
     go true x b y c q e =
         let z = eqb-true j 0 x in
         rw (inner-by w 0 z)
@@ -181,7 +181,7 @@ parts-begin {k} {i} {j} {v} (suc zero) own range base elec sym f w = go (eqb j 0
           range-good = (good, f.range-good.1);
           base-good = part-seen false (Always none0) base_table base (other-kept is_some range j 0 v (λ e. omega arith)) f.base-good;
           elec-good =
-              (part_open (Always none0) elec_table elec (not-one (get_or range 2 none) (was-none range w 2 z)) f.elec-good, ap is_one (now-some (Always none0) range w f.range-good.0 2 z) ∙ opened-by w 2 z);
+              (part_open (Always none0) elec_table elec (not-one (get_or range 2 None) (was-none range w 2 z)) f.elec-good, ap is_one (now-some (Always none0) range w f.range-good.0 2 z) ∙ opened-by w 2 z);
           sym-good = part-seen false (Always none0) sym_table sym (other-kept is_one range j 5 v (λ e. omega arith)) f.sym-good;
         }))
     go false x false y true q e =
@@ -195,7 +195,7 @@ parts-begin {k} {i} {j} {v} (suc zero) own range base elec sym f w = go (eqb j 0
           base-good = part-seen false (Always none0) base_table base (other-kept is_some range j 0 v (λ e. omega arith)) f.base-good;
           elec-good = part-seen false (Always none0) elec_table elec (other-kept is_one range j 2 v (λ e. omega arith)) f.elec-good;
           sym-good =
-              (part_open (Always none0) sym_table sym (not-one (get_or range 5 none) (was-none range w 5 z)) f.sym-good, ap is_one (now-some (Always none0) range w f.range-good.0 5 z) ∙ opened-by w 5 z);
+              (part_open (Always none0) sym_table sym (not-one (get_or range 5 None) (was-none range w 5 z)) f.sym-good, ap is_one (now-some (Always none0) range w f.range-good.0 5 z) ∙ opened-by w 5 z);
         }))
     go false x false y false q e = clash e refl
 parts-begin (suc (suc zero)) own range base elec sym f w = clash (open_at (λ j. false) w refl) refl
@@ -210,7 +210,7 @@ parts-shut zero own range base elec sym f e =
     record {
       low = omega arith;
       own-good = f.own-good;
-      range-good = part-shut (is_some (get_or own 0 none)) (Always none0) range_table range f.range-good e;
+      range-good = part-shut (is_some (get_or own 0 None)) (Always none0) range_table range f.range-good e;
       base-good = f.base-good;
       elec-good = f.elec-good;
       sym-good = f.sym-good;
@@ -220,7 +220,7 @@ parts-shut (suc zero) own range base elec sym f e =
       low = omega arith;
       own-good = f.own-good;
       range-good = f.range-good;
-      base-good = part-shut (is_some (get_or range 0 none)) (Always none0) base_table base f.base-good e;
+      base-good = part-shut (is_some (get_or range 0 None)) (Always none0) base_table base f.base-good e;
       elec-good = f.elec-good;
       sym-good = f.sym-good;
     }
@@ -230,7 +230,7 @@ parts-shut (suc (suc zero)) own range base elec sym f e =
       own-good = f.own-good;
       range-good = f.range-good;
       base-good = f.base-good;
-      elec-good = part-shut (is_one (get_or range 2 none)) (Always none0) elec_table elec f.elec-good e;
+      elec-good = part-shut (is_one (get_or range 2 None)) (Always none0) elec_table elec f.elec-good e;
       sym-good = f.sym-good;
     }
 parts-shut (suc (suc (suc zero))) own range base elec sym f e =
@@ -240,7 +240,7 @@ parts-shut (suc (suc (suc zero))) own range base elec sym f e =
       range-good = f.range-good;
       base-good = f.base-good;
       elec-good = f.elec-good;
-      sym-good = part-shut (is_one (get_or range 5 none)) (Always none0) sym_table sym f.sym-good e;
+      sym-good = part-shut (is_one (get_or range 5 None)) (Always none0) sym_table sym f.sym-good e;
     }
 parts-shut (suc (suc (suc (suc p)))) own range base elec sym f e = absurd (omega (arith, f.low))
 
@@ -266,7 +266,7 @@ parts-good own range base elec sym f e =
 -- ── FILE_FORMAT of any volume ──
 later-enter : {k : Known} {j : ℕ} {v : Value} {a : Act} (p : ℕ) (own : Slots) → p ≡ 0 → GoodSlots (Always none0) later_table own
     → Took k none0 (part_table false p) (rows_there (part_of (own ∷ []) p)) j v false a → LaterInv p (enter (own ∷ []) p j v)
-later-enter {j = j} {v = v} zero own z g w = record { own = set own j (some v); is = refl; low = refl; own-good = took-set own none0 (file-nameless false 0) w g }
+later-enter {j = j} {v = v} zero own z g w = record { own = set own j (Some v); is = refl; low = refl; own-good = took-set own none0 (file-nameless false 0) w g }
 later-enter (suc p) own z g w = absurd (omega arith)
 
 pub file-enter : {k : Known} {j : ℕ} {v : Value} {a : Act} (b : Bool) (p : ℕ) (h : Held) → FileInv b p h → Took k none0 (part_table b p) (rows_there (part_of h p)) j v false a → FileInv b p (enter h p j v)

@@ -1,8 +1,8 @@
 -- A line at the top level, in FILE_FORMAT, DRAWING_FORMAT and SYMBOL_DEFINE keeps the invariant.
+use Rattle.std.specs.Prelude.{Some, None}
 use Prim.Native.Nat.{ℕ, zero, suc, ◌≤◌}
 use mathlib.Core.Bool.{Bool, true, false, cond, ◌&&◌, ◌||◌, not, true≢false}
 use mathlib.Core.List.{List, [], ◌∷◌, ◌++◌, map, append-nil}
-use mathlib.Core.Option.{none, some}
 use mathlib.Core.Path.{◌≡◌, refl, sym, ◌∙◌, ap, subst}
 use native.Mathlib.Omega.{arith}
 use lib.Dec.{eqb, leb, ltb}
@@ -137,9 +137,9 @@ unfolding symbol_table
 symbol-nameless = refl
 
 -- a row that opens a block is not the name's
-name-kept : {k : Known} {d : Digits} {i j : ℕ} {v : Value} (s : Set) (own : Slots) → Took k d symbol_table (rows_there own) j v true (begin i j v) → NewName s own → NewName s (set own j (some v))
+name-kept : {k : Known} {d : Digits} {i j : ℕ} {v : Value} (s : Set) (own : Slots) → Took k d symbol_table (rows_there own) j v true (begin i j v) → NewName s own → NewName s (set own j (Some v))
 unfolding symbol_table
-name-kept {j = j} {v = v} s own w e = rw (get_or-set_other own j 0 (some v) none (λ z. true≢false (sym (opened-by w 0 (sym z))))) e
+name-kept {j = j} {v = v} s own w e = rw (get_or-set_other own j 0 (Some v) None (λ z. true≢false (sym (opened-by w 0 (sym z))))) e
 
 -- what is required at every range is there
 must_be : (d : Digits) (b : Bool) → (not (reaches d none0) || b) ≡ true → b ≡ true
@@ -149,8 +149,8 @@ must_be d b e = rw (le-leb 0 d.middle (omega arith), le-leb 0 d.last (omega arit
 name-full : (d : Digits) (own : Slots) → GoodSlots (Always d) symbol_table own → complete d symbol_table (rows_there own) ≡ true → is_nil (name_in own) ≡ false
 unfolding symbol_table
 name-full d [] g e = absurd g
-name-full d (none ∷ own) g e = clash (must_be d false (and_left (not (reaches d none0) || false) _ e)) refl
-name-full d (some v ∷ own) g e = go v (row-did nobody d false 0 (rule_at symbol_table 0) (rest_of nobody (rule_at symbol_table 0) v) (entry 0 (bare_value v)) refl ((g.0 nobody).again 0)).fit
+name-full d (None ∷ own) g e = clash (must_be d false (and_left (not (reaches d none0) || false) _ e)) refl
+name-full d (Some v ∷ own) g e = go v (row-did nobody d false 0 (rule_at symbol_table 0) (rest_of nobody (rule_at symbol_table 0) v) (entry 0 (bare_value v)) refl ((g.0 nobody).again 0)).fit
   where
     nobody : Known
     nobody = record { symbols = []; layers = [] }
@@ -223,7 +223,7 @@ module _ (done fin : List (List ℕ)) (l : Line) (n : ℕ) (fit : n ≤ 512) (fi
   drawing-nameless = refl
 
   drawing-set : {k : Known} {j : ℕ} {v : Value} {o : Bool} {a : Act} (arc : ℕ) (d : Drawing) → DrawingInv arc d → Took k (digits_of arc) drawing_table (rows_there d.own) j v o a
-      → DrawingInv arc (with_own (set d.own j (some v)) d)
+      → DrawingInv arc (with_own (set d.own j (Some v)) d)
   drawing-set arc d i w =
       record { own-good = took-set d.own (digits_of arc) drawing-nameless w i.own-good; layers = i.layers; most = i.most; differ = i.differ }
 
@@ -270,12 +270,12 @@ module _ (done fin : List (List ℕ)) (l : Line) (n : ℕ) (fit : n ≤ 512) (fi
       (λ e. on-unless J (non || not (is_nil s.symbols)) 8 _ λ e. open-elements done l.next s i)
 
   making-set : {k : Known} {j : ℕ} {v : Value} {o : Bool} {a : Act} (se : ℕ) (own : Slots) (hidden : List Point) → Making se own hidden → Took k (digits_of se) symbol_table (rows_there own) j v o a
-      → Making se (set own j (some v)) hidden
+      → Making se (set own j (Some v)) hidden
   making-set se own hidden m w =
       record { own-good = took-set own (digits_of se) symbol-nameless w m.own-good; hidden-good = m.hidden-good; few-hidden = m.few-hidden; level = m.level }
 
   open-symbol : (s : Set) (y : Symbol) (i j : ℕ) (v : Value) → J (symbol s y) → Took (known_of s) (digits_of (define_range s)) symbol_table (rows_there y.own) j v true (begin i j v)
-      → On J (open_symbol s (symbol_own (set y.own j (some v)) y) i)
+      → On J (open_symbol s (symbol_own (set y.own j (Some v)) y) i)
   unfolding symbol_table
   open-symbol s y zero j v i w = tt
   open-symbol s y (suc zero) j v i w = (i.0, making-set (define_range s) y.own y.hidden i.1 w, name-kept s y.own w i.2, tt)
@@ -293,7 +293,7 @@ module _ (done fin : List (List ℕ)) (l : Line) (n : ℕ) (fit : n ≤ 512) (fi
   unfolding symbol_table
   symbol-good s y i e =
       let d = digits_of (define_range s) in
-      let shown = i.3 (must_be d (is_some (get_or y.own 1 none)) (complete-at (Always d) d symbol_table 1 y.own (omega arith) i.1.own-good e)) in
+      let shown = i.3 (must_be d (is_some (get_or y.own 1 None)) (complete-at (Always d) d symbol_table 1 y.own (omega arith) i.1.own-good e)) in
       record {
         own-good = record { good = i.1.own-good; all = e };
         shown = shown.0;
@@ -318,7 +318,7 @@ module _ (done fin : List (List ℕ)) (l : Line) (n : ℕ) (fit : n ≤ 512) (fi
   unfolding symbol_table
   on-symbol s y t i =
       on-act J (known_of s) (digits_of (define_range s)) symbol_table (rows_there y.own) n l.form (table-keys true 0 0).9 t fit _ _ _ _ i
-      (λ j v w. on-unless J (new_name s (symbol_own (set y.own j (some v)) y)) 15 _ λ e.
+      (λ j v w. on-unless J (new_name s (symbol_own (set y.own j (Some v)) y)) 15 _ λ e.
       (i.0, making-set (define_range s) y.own y.hidden i.1 w, e, λ z. i.3 (other-kept is_some y.own j 1 v (λ q. true≢false (opened-by w 1 q)) ∙ z)))
       (λ i' j v w. open-symbol s y i' j v i w)
       (λ e. (i.0.0, record { file = i.0.1.file; drawing = i.0.1.drawing; defines = symbol-done s y i (symbol-good s y i e) }))

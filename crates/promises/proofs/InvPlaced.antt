@@ -1,8 +1,8 @@
 -- What a placed symbol holds while it is read, and that it is good when it closes.
+use Rattle.std.specs.Prelude.{Some, None}
 use Prim.Native.Nat.{ℕ, zero, suc, ◌≤◌}
 use mathlib.Core.Bool.{Bool, true, false, true≢false}
 use mathlib.Core.List.{List, [], ◌∷◌}
-use mathlib.Core.Option.{none, some}
 use mathlib.Core.Path.{◌≡◌, refl, sym, ap, subst}
 use native.Mathlib.Omega.{arith}
 use lib.Dec.{eqb}
@@ -35,7 +35,7 @@ serial_in own = own_serial (serials_of (slot_value (held "serial" placed_table o
 pub record Placing (k : Known) (d : Digits) (used : List ℕ) (p : ℕ) (own text : Slots) : Type 0 where
   pub low : p ≤ 1
   pub own-good : GoodSlots (GoodRow k d) placed_table own
-  pub text-good : HeldPart (eqb p 1) (is_some (get_or own 1 none)) (Always none0) placed_text text
+  pub text-good : HeldPart (eqb p 1) (is_some (get_or own 1 None)) (Always none0) placed_text text
   pub serial : none_of (serial_in own) used ≡ true
 
 pub record PlacedInv (k : Known) (d : Digits) (used : List ℕ) (p : ℕ) (h : Held) : Type 0 where
@@ -57,13 +57,13 @@ text-nameless = refl
 
 -- the number that stands after a row took a value: that row's, or the one from before
 serial-set : {k : Known} {d : Digits} {j : ℕ} {v : Value} {o : Bool} {a : Act} (used : List ℕ) (own : Slots) → Took k d placed_table (rows_there own) j v o a → GoodSlots (GoodRow k d) placed_table own
-    → none_of (serial_in own) used ≡ true → (j ≡ 5 → none_of (own_serial (serials_of v)) used ≡ true) → none_of (serial_in (set own j (some v))) used ≡ true
+    → none_of (serial_in own) used ≡ true → (j ≡ 5 → none_of (own_serial (serials_of v)) used ≡ true) → none_of (serial_in (set own j (Some v))) used ≡ true
 unfolding placed_table
 serial-set {k} {d} {j} {v} used own w g e f = go (eqb j 5) refl
   where
-    go : (b : Bool) → eqb j 5 ≡ b → none_of (own_serial (serials_of (slot_value (get_or (set own j (some v)) 5 none)))) used ≡ true
+    go : (b : Bool) → eqb j 5 ≡ b → none_of (own_serial (serials_of (slot_value (get_or (set own j (Some v)) 5 None)))) used ≡ true
     go true q = rw (now-some (GoodRow k d) own w g 5 (eqb-true j 5 q)) (f (eqb-true j 5 q))
-    go false q = rw (get_or-set_other own j 5 (some v) none (λ x. eqb-false j 5 q (sym x))) e
+    go false q = rw (get_or-set_other own j 5 (Some v) None (λ x. eqb-false j 5 q (sym x))) e
 
 pub placed-enter : {k : Known} {d : Digits} {j : ℕ} {v : Value} {a : Act} (used : List ℕ) (h : Held) → PlacedInv k d used 0 h → Took k d placed_table (rows_there (part_of h 0)) j v false a
     → none_of (own_serial (serials_of v)) used ≡ true → PlacedInv k d used 0 (enter h 0 j v)
@@ -71,7 +71,7 @@ unfolding placed_table
 placed-enter {k} {d} {j} {v} {a} used h f w n =
     (subst (λ (h : Held). Took k d placed_table (rows_there (part_of h 0)) j v false a → PlacedInv k d used 0 (enter h 0 j v)) (sym f.is) (go f.own f.text f.parts)) w
   where
-    go : (own text : Slots) → Placing k d used 0 own text → Took k d placed_table (rows_there own) j v false a → PlacedInv k d used 0 (set own j (some v) ∷ text ∷ [])
+    go : (own text : Slots) → Placing k d used 0 own text → Took k d placed_table (rows_there own) j v false a → PlacedInv k d used 0 (set own j (Some v) ∷ text ∷ [])
     go own text f w =
         both-parts
         (record {
@@ -87,7 +87,7 @@ unfolding placed_table
 placed-begin {k} {d} {i} {j} {v} used h f w =
     (subst (λ (h : Held). Took k d placed_table (rows_there (part_of h 0)) j v true (begin i j v) → PlacedInv k d used i (enter h 0 j v)) (sym f.is) (go f.own f.text f.parts)) w
   where
-    go : (own text : Slots) → Placing k d used 0 own text → Took k d placed_table (rows_there own) j v true (begin i j v) → PlacedInv k d used i (set own j (some v) ∷ text ∷ [])
+    go : (own text : Slots) → Placing k d used 0 own text → Took k d placed_table (rows_there own) j v true (begin i j v) → PlacedInv k d used i (set own j (Some v) ∷ text ∷ [])
     go own text f w =
         let z = eqb-true j 1 (open_at (λ j. eqb j 1) w refl) in
         rw (inner-by w 1 z)
@@ -137,7 +137,7 @@ text-shut {k} {d} used p h f e =
     go : (p : ℕ) (own text : Slots) → Placing k d used (suc p) own text → complete none0 (get_or placed_tables (suc p) []) (rows_there (part_of (own ∷ text ∷ []) (suc p))) ≡ true
         → PlacedInv k d used (around (suc p)) (own ∷ text ∷ [])
     go zero own text f e =
-        both-parts (record { low = omega arith; own-good = f.own-good; text-good = part-shut (is_some (get_or own 1 none)) (Always none0) placed_text text f.text-good e; serial = f.serial })
+        both-parts (record { low = omega arith; own-good = f.own-good; text-good = part-shut (is_some (get_or own 1 None)) (Always none0) placed_text text f.text-good e; serial = f.serial })
     go (suc p) own text f e = absurd (omega (arith, f.low))
 
 pub placed-good : {k : Known} {d : Digits} (used : List ℕ) (h : Held) (n : ℕ) → PlacedInv k d used 0 h → complete (both full_class.symbols d) placed_table (rows_there (part_of h 0)) ≡ true

@@ -1,8 +1,8 @@
 -- What a line that was read in a block says: the row that it entered, what it held, and that the block's slots stay good.
+use Rattle.std.specs.Prelude.{Option, Some, None}
 use Prim.Native.Nat.{ℕ, zero, suc, ◌≤◌, ◌<◌}
 use mathlib.Core.Bool.{Bool, true, false, cond, ◌&&◌, ◌||◌, not}
 use mathlib.Core.List.{List, [], ◌∷◌}
-use mathlib.Core.Option.{Option, none, some}
 use mathlib.Core.Path.{◌≡◌, refl, sym, ◌∙◌, ap, subst}
 use native.Mathlib.Omega.{arith}
 use lib.Dec.{ltb}
@@ -198,34 +198,34 @@ row-all-at p (here {r = r}) e = and_left (p 0 r) _ e
 row-all-at p (there {q = q} w) e = row-all-at (λ j. p (suc j)) w (and_right (p 0 q) _ e)
 
 -- ── slots ──
-pub good-set : (P : Rule → Value → Type 0) {t : List Rule} {j : ℕ} {r : Rule} → Row t j r → (s : Slots) (v : Value) → GoodSlots P t s → P r v → GoodSlots P t (set s j (some v))
+pub good-set : (P : Rule → Value → Type 0) {t : List Rule} {j : ℕ} {r : Rule} → Row t j r → (s : Slots) (v : Value) → GoodSlots P t s → P r v → GoodSlots P t (set s j (Some v))
 good-set P here [] v g x = absurd g
-good-set P here (none ∷ s) v g x = (x, g)
-good-set P here (some u ∷ s) v g x = (x, g.1)
+good-set P here (None ∷ s) v g x = (x, g)
+good-set P here (Some u ∷ s) v g x = (x, g.1)
 good-set P (there w) [] v g x = absurd g
-good-set P (there w) (none ∷ s) v g x = good-set P w s v g x
-good-set P (there w) (some u ∷ s) v g x = (g.0, good-set P w s v g.1 x)
+good-set P (there w) (None ∷ s) v g x = good-set P w s v g x
+good-set P (there w) (Some u ∷ s) v g x = (g.0, good-set P w s v g.1 x)
 
 -- the slot that was filled
-pub slot-set : (P : Rule → Value → Type 0) {t : List Rule} {j : ℕ} {r : Rule} → Row t j r → (s : Slots) (o : Option Value) → GoodSlots P t s → get_or (set s j o) j none ≡ o
+pub slot-set : (P : Rule → Value → Type 0) {t : List Rule} {j : ℕ} {r : Rule} → Row t j r → (s : Slots) (o : Option Value) → GoodSlots P t s → get_or (set s j o) j None ≡ o
 slot-set P here [] o g = absurd g
 slot-set P here (u ∷ s) o g = refl
 slot-set P (there w) [] o g = absurd g
-slot-set P (there w) (none ∷ s) o g = slot-set P w s o g
-slot-set P (there w) (some u ∷ s) o g = slot-set P w s o g.1
+slot-set P (there w) (None ∷ s) o g = slot-set P w s o g
+slot-set P (there w) (Some u ∷ s) o g = slot-set P w s o g.1
 
 -- a row that is not marked holds nothing
-pub unmarked : (s : Slots) (j : ℕ) → get_or (rows_there s) j false ≡ false → is_some (get_or s j none) ≡ false
-unmarked s j e = sym (get_or-map is_some s j none) ∙ e
+pub unmarked : (s : Slots) (j : ℕ) → get_or (rows_there s) j false ≡ false → is_some (get_or s j None) ≡ false
+unmarked s j e = sym (get_or-map is_some s j None) ∙ e
 
 -- a row of a complete block is there, where it must be
 pub complete-at : (P : Rule → Value → Type 0) (d : Digits) (t : List Rule) (j : ℕ) (s : Slots) → j < length t → GoodSlots P t s → complete d t (rows_there s) ≡ true
-    → present d (rule_at t j) (is_some (get_or s j none)) ≡ true
+    → present d (rule_at t j) (is_some (get_or s j None)) ≡ true
 complete-at P d [] j s l g e = absurd (omega arith)
 complete-at P d (r ∷ t) j [] l g e = absurd g
 complete-at P d (r ∷ t) zero (o ∷ s) l g e = and_left (present d r (is_some o)) _ e
-complete-at P d (r ∷ t) (suc j) (none ∷ s) l g e = complete-at P d t j s (omega arith) g (and_right (present d r false) _ e)
-complete-at P d (r ∷ t) (suc j) (some u ∷ s) l g e = complete-at P d t j s (omega arith) g.1 (and_right (present d r true) _ e)
+complete-at P d (r ∷ t) (suc j) (None ∷ s) l g e = complete-at P d t j s (omega arith) g (and_right (present d r false) _ e)
+complete-at P d (r ∷ t) (suc j) (Some u ∷ s) l g e = complete-at P d t j s (omega arith) g.1 (and_right (present d r true) _ e)
 
 -- ── rows that hold numbers alone ──
 abbrev pub only_numbers : Rule → Bool

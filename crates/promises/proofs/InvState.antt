@@ -1,8 +1,8 @@
 -- The invariant of the reading: what is good of the set so far and of the block that is open.
+use Rattle.std.specs.Prelude.{Some, None}
 use Prim.Native.Nat.{ℕ, zero, suc}
 use mathlib.Core.Bool.{Bool, true, false, ◌&&◌, ◌||◌, not}
 use mathlib.Core.List.{List, [], ◌∷◌, ◌++◌, map, append-nil, append_assoc}
-use mathlib.Core.Option.{none, some}
 use mathlib.Core.Path.{◌≡◌, sym, ◌∙◌, ap}
 use lib.Dec.{eqb, leb}
 use lib.ListN.{length, get_or}
@@ -137,7 +137,7 @@ NewName s own = (is_nil (name_in own) || not (among (name_in own) (known_of s).s
 
 -- its figures, where its `element` is closed
 abbrev pub Shown : Set → Slots → List Figure → Type 0
-Shown s own fs = is_some (get_or own 1 none) ≡ true → GoodShapes (range_of s) fs × (is_nil fs ≡ false)
+Shown s own fs = is_some (get_or own 1 None) ≡ true → GoodShapes (range_of s) fs × (is_nil fs ≡ false)
 
 abbrev pub Points : Bool → List Point → Type 0
 Points b ps = GoodPoints b ps × (leb (length ps) most_points ≡ true)
@@ -147,7 +147,7 @@ SymbolInv done cur s y = Defining done cur s × Making (define_range s) y.own y.
 
 -- the layer that is open is declared, and not used before in this volume
 pub record LayerOpen (k : Known) (now : Contents) (n : ℕ) : Type 0 where
-  pub here : index_of (get_or k.layers n []) k.layers ≡ some n
+  pub here : index_of (get_or k.layers n []) k.layers ≡ Some n
   pub id : is_layer_id (get_or k.layers n []) ≡ true
   pub new : has_number n (used_in now) ≡ false
 
@@ -173,7 +173,7 @@ Writing wires (suc p) w =
 pub record WireInv (wires : ℕ) (used : List ℕ) (p : ℕ) (w : Wire) : Type 0 where
   pub holds : WireHolds wires w
   pub writing : Writing wires p w
-  pub serial : none_of (own_number (get_or w.own wire_serial_row none)) used ≡ true
+  pub serial : none_of (own_number (get_or w.own wire_serial_row None)) used ≡ true
 
 -- at class 15 no wire is skipped
 abbrev pub OwnedInv : List (List ℕ) → List ℕ → Set → ℕ → List Figure → Owned → ℕ → Type 0

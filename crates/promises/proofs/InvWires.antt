@@ -1,9 +1,9 @@
 -- A line in a wire keeps the invariant: each of its lines and arcs is good, and joined to the one before it where E_wire says so; each of its
 -- attributes and texts is good, and what it has is all that stood there.
+use Rattle.std.specs.Prelude.{Some, None}
 use Prim.Native.Nat.{ℕ, zero, suc, ◌≤◌, ◌-◌}
 use mathlib.Core.Bool.{Bool, true, false, cond, ◌&&◌, ◌||◌, not}
 use mathlib.Core.List.{List, [], ◌∷◌, ◌++◌, append-nil, append_assoc}
-use mathlib.Core.Option.{none, some}
 use mathlib.Core.Path.{◌≡◌, refl, sym, subst}
 use native.Mathlib.Omega.{arith}
 use lib.Dec.{eqb, ltb}
@@ -59,18 +59,18 @@ texts-more : (d : Digits) (ss : List Slots) (s : Slots) → GoodTexts d ss → r
 texts-more d [] s g l x = (l, x, tt)
 texts-more d (u ∷ ss) s g l x = (g.0, g.1, texts-more d ss s g.2 l x)
 
-none-set : (n j : ℕ) (s : Slots) (v : Value) → n ≤ j → none_below n s ≡ true → none_below n (set s j (some v)) ≡ true
+none-set : (n j : ℕ) (s : Slots) (v : Value) → n ≤ j → none_below n s ≡ true → none_below n (set s j (Some v)) ≡ true
 none-set zero j s v l e = refl
 none-set (suc n) j [] v l e = refl
 none-set (suc n) zero (o ∷ s) v l e = absurd (omega arith)
 none-set (suc n) (suc j) (o ∷ s) v l e = and_true _ _ (and_left (is_none o) _ e) (none-set n j s v (omega arith) (and_right (is_none o) _ e))
 
-any-set : (P : Rule → Value → Type 0) {t : List Rule} {j : ℕ} {r : Rule} → Row t j r → (s : Slots) (v : Value) → GoodSlots P t s → any_slot (set s j (some v)) ≡ true
+any-set : (P : Rule → Value → Type 0) {t : List Rule} {j : ℕ} {r : Rule} → Row t j r → (s : Slots) (v : Value) → GoodSlots P t s → any_slot (set s j (Some v)) ≡ true
 any-set P here [] v g = absurd g
 any-set P here (o ∷ s) v g = refl
 any-set P (there w) [] v g = absurd g
-any-set P (there w) (none ∷ s) v g = any-set P w s v g
-any-set P (there w) (some u ∷ s) v g = refl
+any-set P (there w) (None ∷ s) v g = any-set P w s v g
+any-set P (there w) (Some u ∷ s) v g = refl
 
 some_first : (a x y : Bool) → a ≡ true → ((a || x) || y) ≡ true
 some_first a x y e = rw e
@@ -125,15 +125,15 @@ module _ (s : Set) (fs : List Figure) (w : Wire) (i : WireInv (wire_range s) (se
         serial = i.serial;
       }
 
-  serial-set : (j : ℕ) (v : Value) → Took' j v false (entry j v) → new_number s fs j v ≡ true → none_of (own_number (get_or (set w.own j (some v)) wire_serial_row none)) used ≡ true
+  serial-set : (j : ℕ) (v : Value) → Took' j v false (entry j v) → new_number s fs j v ≡ true → none_of (own_number (get_or (set w.own j (Some v)) wire_serial_row None)) used ≡ true
   serial-set j v t new = go (eqb j wire_serial_row) refl new
     where
-      go : (b : Bool) → eqb j wire_serial_row ≡ b → (not b || none_of (own_number (some v)) used) ≡ true → none_of (own_number (get_or (set w.own j (some v)) wire_serial_row none)) used ≡ true
-      go true q e = rw (← (eqb-true j wire_serial_row q), slot-set (Always d) t.row w.own (some v) i.holds.own) e
-      go false q e = rw (get_or-set_other w.own j wire_serial_row (some v) none (λ x. eqb-false j wire_serial_row q (sym x))) i.serial
+      go : (b : Bool) → eqb j wire_serial_row ≡ b → (not b || none_of (own_number (Some v)) used) ≡ true → none_of (own_number (get_or (set w.own j (Some v)) wire_serial_row None)) used ≡ true
+      go true q e = rw (← (eqb-true j wire_serial_row q), slot-set (Always d) t.row w.own (Some v) i.holds.own) e
+      go false q e = rw (get_or-set_other w.own j wire_serial_row (Some v) None (λ x. eqb-false j wire_serial_row q (sym x))) i.serial
 
   -- a row that stands once
-  with-once : (j : ℕ) (v : Value) → once_rows ≤ j → Took' j v false (entry j v) → new_number s fs j v ≡ true → WireInv (wire_range s) used 0 (with_once (set w.own j (some v)) w)
+  with-once : (j : ℕ) (v : Value) → once_rows ≤ j → Took' j v false (entry j v) → new_number s fs j v ≡ true → WireInv (wire_range s) used 0 (with_once (set w.own j (Some v)) w)
   with-once j v l t new =
       record {
         holds =
@@ -182,7 +182,7 @@ module _ (s : Set) (fs : List Figure) (w : Wire) (i : WireInv (wire_range s) (se
   attribute-after (suc (suc (suc (suc (suc zero))))) v t e like new = clash refl (opened-at t)
   attribute-after (suc (suc (suc (suc (suc (suc m)))))) v t e like new =
       let j = suc (suc (suc (suc (suc (suc m))))) in
-      subst (λ b. WireInv (wire_range s) used 0 (cond b (with_groups (set w.groups (j - first_group_row) (group_at w j ++ nums_of v ∷ [])) w) (with_once (set w.own j (some v)) w))) (sym (once-alone j (omega arith)))
+      subst (λ b. WireInv (wire_range s) used 0 (cond b (with_groups (set w.groups (j - first_group_row) (group_at w j ++ nums_of v ∷ [])) w) (with_once (set w.own j (Some v)) w))) (sym (once-alone j (omega arith)))
       (with-once j v (omega arith) t new)
 
   text-begins : {i' j : ℕ} {v : Value} → Took' j v true (begin i' j v) → WireInv (wire_range s) used 1 (with_texts w.texts (blank wire_text_table) w)
@@ -280,7 +280,7 @@ module _ (done fin : List (List ℕ)) (l : Line) (n : ℕ) (fit : n ≤ 512) whe
   -- in its text
   text-set : (s : Set) (fs : List Figure) (w : Wire) (p j : ℕ) (v : Value) {a : Act} → WireInv (wire_range s) (serials_in s ++ figure_serials fs) (suc p) w
       → Took (known_of s) none0 wire_text_table (rows_there w.writing) j v false a
-      → WireInv (wire_range s) (serials_in s ++ figure_serials fs) (suc p) (with_texts w.texts (set w.writing j (some v)) w)
+      → WireInv (wire_range s) (serials_in s ++ figure_serials fs) (suc p) (with_texts w.texts (set w.writing j (Some v)) w)
   text-set s fs w p j v i t =
       record { holds = i.holds; writing = (took-set w.writing none0 (texts-nameless true) t i.writing.0, i.writing.1); serial = i.serial }
 

@@ -1,8 +1,8 @@
 -- One line in each block before ELEMENT: what there is to write grows by no more than the line.
+use Rattle.std.specs.Prelude.{Some}
 use Prim.Native.Nat.{ℕ, zero, suc, ◌+◌, ◌-◌, ◌≤◌}
 use mathlib.Core.Bool.{Bool, true, false, cond, ◌&&◌, ◌||◌, not}
 use mathlib.Core.List.{List, [], ◌∷◌, ◌++◌, map}
-use mathlib.Core.Option.{some}
 use mathlib.Core.Path.{◌≡◌, refl, sym, ap, subst}
 use native.Mathlib.Omega.{arith}
 use lib.Dec.{eqb, leb, ltb}
@@ -225,8 +225,8 @@ module _ (K : Known) (n : ℕ) where
   pub symbol-next : (s : Set) (y : Symbol) (f : Form) → HomeOk s (in_element y) → Told n f → On (Next K (symbol s y) n) (on_symbol s y f)
   symbol-next s y f ok tells =
       let P : State → Type 0 = Next K (symbol s y) n in
-      let more : ℕ → Value → Symbol = λ j v. symbol_own (set y.own j (some v)) y in
-      let ok' : (j : ℕ) (v : Value) → HomeOk s (in_element (more j v)) = λ j v. (ok.0, omega (arith, length-set y.own j (some v), ok.1)) in
+      let more : ℕ → Value → Symbol = λ j v. symbol_own (set y.own j (Some v)) y in
+      let ok' : (j : ℕ) (v : Value) → HomeOk s (in_element (more j v)) = λ j v. (ok.0, omega (arith, length-set y.own j (Some v), ok.1)) in
       on-plain P _ _ _ _ (known_of s) (digits_of (define_range s)) symbol_table (rows_there y.own) f (plain-tables true 0 0).3 tells
       (ok, omega arith)
       (λ j r v w u. on-unless P (new_name s (more j v)) 15 (got (symbol s (more j v))) λ _. (ok' j v, omega (arith, slots-took w K y.own v n false u)))

@@ -1,8 +1,8 @@
 -- One line in a block of rows: what it adds to the weight of what is held.
+use Rattle.std.specs.Prelude.{Some}
 use Prim.Native.Nat.{ℕ, ◌+◌, ◌≤◌}
 use mathlib.Core.Bool.{Bool, true, false, cond}
 use mathlib.Core.List.{List, [], ◌∷◌, ◌++◌}
-use mathlib.Core.Option.{some}
 use mathlib.Core.Path.{◌≡◌, refl, sym, ap, subst}
 use native.Mathlib.Omega.{arith}
 use lib.Dec.{leb}
@@ -42,12 +42,12 @@ abbrev pub owes : Bool → ℕ
 owes b = cond b 3 0
 
 pub slots-took : {t : List Rule} {j : ℕ} {r : Rule} → Row t j r → (k : Known) (s : Slots) (v : Value) (n : ℕ) (b : Bool) → Took k r (get_or (rows_there s) j false) v n b
-    → slots_cost k t (set s j (some v)) ≤ slots_cost k t s + (n + 2) + owes b
+    → slots_cost k t (set s j (Some v)) ≤ slots_cost k t s + (n + 2) + owes b
 slots-took w k s v n b (f, o, l, m) = omega (arith, set-cost w k s v f, ap owes o)
 
 pub held-took : (ts : List (List Rule)) (p : ℕ) {j : ℕ} {r : Rule} → Row (get_or ts p []) j r → (k : Known) (h : Held) (v : Value) (n : ℕ) (b : Bool)
     → Took k r (get_or (rows_there (part_of h p)) j false) v n b → held_cost k ts (enter h p j v) ≤ held_cost k ts h + (n + 2) + owes b
-held-took ts p {j} w k h v n b u = omega (arith, set-held k ts h p (set (part_of h p) j (some v)), slots-took w k (part_of h p) v n b u)
+held-took ts p {j} w k h v n b u = omega (arith, set-held k ts h p (set (part_of h p) j (Some v)), slots-took w k (part_of h p) v n b u)
 
 -- the opening lines of a table's inner blocks, by their numbers
 abbrev pub heads : (ℕ → ℕ) → List Rule → Bool

@@ -1,8 +1,8 @@
 -- One line in a wire: what there is to write grows by no more than the line.
+use Rattle.std.specs.Prelude.{Some}
 use Prim.Native.Nat.{ℕ, zero, suc, ◌+◌, ◌-◌, ◌≤◌}
 use mathlib.Core.Bool.{Bool, true, false, cond, ◌&&◌}
 use mathlib.Core.List.{List, [], ◌∷◌, ◌++◌}
-use mathlib.Core.Option.{some}
 use mathlib.Core.Path.{◌≡◌, refl, sym, subst}
 use native.Mathlib.Omega.{arith}
 use lib.Dec.{ltb}
@@ -69,7 +69,7 @@ module _ (K : Known) (n : ℕ) (e : Env) (l : Line) (s : Set) (h : ℕ) (fs : Li
       (tt, omega (arith, groups-more (known_of s) w.groups first_group_row i (nums_of v), line))
 
   once-next : (j : ℕ) (r : Rule) (v : Value) → Row wire_table j r → wire_text_row ≤ j → TookRow j r v false
-      → P (placing s h fs m (wire_block (with_once (set w.own j (some v)) w)) 0)
+      → P (placing s h fs m (wire_block (with_once (set w.own j (Some v)) w)) 0)
   once-next j r v at le u =
       let t : Took (known_of s) r (get_or (rows_there w.own) j false) v n false = rw (full-once w j le) at u in
       (tt, omega (arith, slots-took at (known_of s) w.own v n false t))
@@ -82,7 +82,7 @@ module _ (K : Known) (n : ℕ) (e : Env) (l : Line) (s : Set) (h : ℕ) (fs : Li
   attribute-next (suc (suc (suc (suc zero)))) r v at low u = group-next 4 2 r v at refl refl u
   attribute-next (suc (suc (suc (suc (suc i))))) r v at low u =
       let j = suc (suc (suc (suc (suc i)))) in
-      subst (λ b. P (placing s h fs m (wire_block (cond b (with_groups (set w.groups (j - first_group_row) (group_at w j ++ nums_of v ∷ [])) w) (with_once (set w.own j (some v)) w))) 0)) (sym (once-alone j (omega arith)))
+      subst (λ b. P (placing s h fs m (wire_block (cond b (with_groups (set w.groups (j - first_group_row) (group_at w j ++ nums_of v ∷ [])) w) (with_once (set w.own j (Some v)) w))) 0)) (sym (once-alone j (omega arith)))
       (once-next j r v at (omega arith) u)
 
   entry_next : (j : ℕ) (r : Rule) (v : Value) → Row wire_table j r → TookRow j r v false

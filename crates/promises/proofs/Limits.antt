@@ -1,8 +1,8 @@
 -- The table's limit changes nothing of a set that fits: with it and without it the same lines give the same set.
+use Rattle.std.specs.Prelude.{Option}
 use Prim.Native.Nat.{ℕ, zero, suc, ◌+◌, ◌≤◌, ◌<◌}
 use mathlib.Core.Bool.{Bool, true, false, cond}
 use mathlib.Core.List.{List, [], ◌∷◌}
-use mathlib.Core.Option.{Option}
 use mathlib.Core.Path.{◌≡◌, refl, sym, ap, subst}
 use native.Mathlib.Nat.{le_refl, le_of_eq, le-add_right}
 use native.Mathlib.Omega.{arith}

@@ -1,8 +1,8 @@
 -- What a line has behind its `=` stands in the spool at the place that the line's form tells, up to the line's end.
+use Rattle.std.specs.Prelude.{Option, Some, None}
 use Prim.Native.Nat.{ℕ, zero, suc, ◌+◌, ◌-◌}
 use mathlib.Core.Bool.{true, ◌&&◌, ◌||◌, not}
 use mathlib.Core.List.{List, [], ◌∷◌, ◌++◌, append_assoc, append-nil}
-use mathlib.Core.Option.{Option, none, some}
 use mathlib.Core.Path.{◌≡◌, refl, sym, ◌∙◌, ap, subst}
 use native.Mathlib.Omega.{arith}
 use lib.Dec.{eqb}
@@ -121,17 +121,17 @@ module _ (spool : List ℕ) where
       (subst (At v.place) (lines_inv v.body (l ∷ t) h.0).0 p.0) (listing-fits (suc k) vs ts h.1 p.1)
 
   -- ── the volumes of a spool ──
-  from_stand : (k at : ℕ) (s : List ℕ) (vs : List Volume) → volumes_from k at s ≡ some vs → At at s → Stand vs
+  from_stand : (k at : ℕ) (s : List ℕ) (vs : List Volume) → volumes_from k at s ≡ Some vs → At at s → Stand vs
   from_stand zero at [] vs e h = let q : [] ≡ vs = cc in subst Stand q tt
   from_stand zero at (b ∷ s) vs e h = none-some e
   from_stand (suc k) at [] vs e h = let q : [] ≡ vs = cc in subst Stand q tt
   from_stand (suc k) at (b ∷ s) vs e h = go (take 12 (b ∷ s)) (drop 12 (b ∷ s)) (take-append-drop 12 (b ∷ s)) (λ n t us. from_stand k n t us) e
     where
-      go : (f r : List ℕ) → f ++ r ≡ b ∷ s → ((n : ℕ) (t : List ℕ) (us : List Volume) → volumes_from k n t ≡ some us → At n t → Stand us)
-          → choose (good_head f r) (λ _. map_o (λ us. volume_at at f r ∷ us) (volumes_from k (at + 12 + length_of f) (drop (length_of f) r))) (λ _. none) ≡ some vs → Stand vs
-      go f r q ih e = by-choose (λ o. o ≡ some vs → Stand vs) (good_head f r) _ _ taken (λ _ z. none-some z) e
+      go : (f r : List ℕ) → f ++ r ≡ b ∷ s → ((n : ℕ) (t : List ℕ) (us : List Volume) → volumes_from k n t ≡ Some us → At n t → Stand us)
+          → choose (good_head f r) (λ _. map_o (λ us. volume_at at f r ∷ us) (volumes_from k (at + 12 + length_of f) (drop (length_of f) r))) (λ _. None) ≡ Some vs → Stand vs
+      go f r q ih e = by-choose (λ o. o ≡ Some vs → Stand vs) (good_head f r) _ _ taken (λ _ z. none-some z) e
         where
-          taken : good_head f r ≡ true → map_o (λ us. volume_at at f r ∷ us) (volumes_from k (at + 12 + length_of f) (drop (length_of f) r)) ≡ some vs → Stand vs
+          taken : good_head f r ≡ true → map_o (λ us. volume_at at f r ∷ us) (volumes_from k (at + 12 + length_of f) (drop (length_of f) r)) ≡ Some vs → Stand vs
           taken g z =
               let n = length_of f in
               let (us, o, w) = map-some (λ us. volume_at at f r ∷ us) (volumes_from k (at + 12 + n) (drop n r)) vs z in
@@ -144,12 +144,12 @@ module _ (spool : List ℕ) where
               let rest = at_same _ (at + 12 + n) (drop n r) (ap (λ (m : ℕ). at + 12 + m) size) (at-behind (at + 12) (take n r) (drop n r) both) in
               subst Stand w (at_front (at + 12) (take n r) (drop n r) both, ih _ _ us o rest)
 
-  pub volumes_stand : (vs : List Volume) → volumes_of spool ≡ some vs → Stand vs
+  pub volumes_stand : (vs : List Volume) → volumes_of spool ≡ Some vs → Stand vs
   unfolding volumes_of
   volumes_stand vs e =
-      by-choose (λ o. o ≡ some vs → Stand vs) (within 1 most_bytes (length spool)) _ _
+      by-choose (λ o. o ≡ Some vs → Stand vs) (within 1 most_bytes (length spool)) _ _
       (λ _. sound (volumes_from most_volumes 0 spool) (λ us p. from_stand most_volumes 0 spool us p ([], [], sym (append-nil spool), refl))) (λ _ z. none-some z) e
     where
-      sound : (o : Option (List Volume)) → ((us : List Volume) → o ≡ some us → Stand us) → sound_volumes o ≡ some vs → Stand vs
-      sound none i e = none-some e
-      sound (some us) i e = let (p, q) = cond-some (not (is_nil us) && distinct (names_of us)) us vs e in i vs (ap some q)
+      sound : (o : Option (List Volume)) → ((us : List Volume) → o ≡ Some us → Stand us) → sound_volumes o ≡ Some vs → Stand vs
+      sound None i e = none-some e
+      sound (Some us) i e = let (p, q) = cond-some (not (is_nil us) && distinct (names_of us)) us vs e in i vs (ap Some q)

@@ -1,8 +1,8 @@
 -- Of two records of lines that follow each other the later starts where the former ends, where it says that its join was tested.
+use Rattle.std.specs.Prelude.{Some, None}
 use Prim.Native.Nat.{ℕ}
 use mathlib.Core.Bool.{Bool, true, false}
 use mathlib.Core.List.{List, [], ◌∷◌, ◌++◌}
-use mathlib.Core.Option.{none, some}
 use mathlib.Core.Path.{◌≡◌, sym, ◌∙◌, ap, subst}
 use native.Mathlib.Omega.{arith}
 use lib.IntN.{ℤ, pos}
@@ -42,20 +42,20 @@ untested : {P : Type 0} (r : List ℤ) → join_in r ≡ pos 0 → join_in r ≡
 untested r a b = let e : pos 0 ≡ pos 1 = sym a ∙ b in absurd (let z : ◌≡◌ {A = ℕ} 0 1 = cc in omega arith)
 
 -- the first of a wire, whatever stands before it, and one behind another
-first_pair : (ends : Bool) (q r : List ℤ) → JoinedTo ends none r → Pair q r
+first_pair : (ends : Bool) (q r : List ℤ) → JoinedTo ends None r → Pair q r
 first_pair true q r j a b t = untested r j t
 first_pair false q r j a b t = untested r j t
 
-next_pair : (ends : Bool) (q r : List ℤ) → JoinedTo ends (some q) r → Pair q r
+next_pair : (ends : Bool) (q r : List ℤ) → JoinedTo ends (Some q) r → Pair q r
 next_pair true q r j a b t = (subst (λ (both : Bool). Tested both q r) (and_true (is_line q) (is_line r) a b) j).1
 next_pair false q r j a b t = untested r j t
 
 module _ (ends : Bool) (own : List ℤ) (rs : List (List ℤ)) (rest : (q : List ℤ) → Follows q rs) where
-  next_follow : (q : List ℤ) (es : List (List ℤ)) → Elements ends own (some q) es → Follows q (es ++ rs)
+  next_follow : (q : List ℤ) (es : List (List ℤ)) → Elements ends own (Some q) es → Follows q (es ++ rs)
   next_follow q [] g = rest q
   next_follow q (r ∷ es) g = (next_pair ends q r g.0.joined, next_follow r es g.1)
 
-  first_follow : (q : List ℤ) (es : List (List ℤ)) → Elements ends own none es → Follows q (es ++ rs)
+  first_follow : (q : List ℤ) (es : List (List ℤ)) → Elements ends own None es → Follows q (es ++ rs)
   first_follow q [] g = rest q
   first_follow q (r ∷ es) g = (first_pair ends q r g.0.joined, next_follow r es g.1)
 

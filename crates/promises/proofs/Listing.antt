@@ -1,8 +1,8 @@
 -- The lines of a spool's volumes, as the reading goes over them: in order, ending in the last line of the last volume.
+use Rattle.std.specs.Prelude.{Option, Some, None}
 use Prim.Native.Nat.{ℕ, suc, ◌+◌, ◌≤◌, ◌<◌}
 use mathlib.Core.Bool.{true, cond}
 use mathlib.Core.List.{List, [], ◌∷◌, ◌++◌, append-nil}
-use mathlib.Core.Option.{Option, none, some}
 use mathlib.Core.Path.{◌≡◌, refl}
 use native.Mathlib.Omega.{arith}
 use lib.Dec.{ltb}
@@ -117,8 +117,8 @@ lines-whole k (v ∷ vs) ls e = go (lines_of v.body) (lines-whole (suc k) vs) e
   where
     go : (o : Option (List (List ℕ))) → ((rest : List Line) → list_volumes (suc (suc k)) vs ≡ listed rest → Whole (suc k) rest)
         → list_volume (suc k) v vs o (list_volumes (suc (suc k)) vs) ≡ listed ls → Whole k ls
-    go none ih e = absurd (let z : ◌≡◌ {A = ℕ} 0 1 = cc in omega arith)
-    go (some ts) ih e =
+    go None ih e = absurd (let z : ◌≡◌ {A = ℕ} 0 1 = cc in omega arith)
+    go (Some ts) ih e =
         let (rest, p, q) = onto_inv (lines_of_volume (suc k) (next_name vs) v.place ts) (list_volumes (suc (suc k)) vs) ls e in
         let w = ih rest p in
         rw (← q)
@@ -132,14 +132,14 @@ pub lines-proper : (k : ℕ) (v : Volume) (vs : List Volume) (ls : List Line) �
 lines-proper k v [] ls e = go (lines_of v.body) e
   where
     go : (o : Option (List (List ℕ))) → list_volume k v [] o (listed []) ≡ listed ls → proper ls ≡ true
-    go none e = absurd (let z : ◌≡◌ {A = ℕ} 0 1 = cc in omega arith)
-    go (some ts) e = rw (← listed-eq (lines_of_volume k [] v.place ts ++ []) ls e, append-nil (lines_of_volume k [] v.place ts)) (volume-proper k v.place ts)
+    go None e = absurd (let z : ◌≡◌ {A = ℕ} 0 1 = cc in omega arith)
+    go (Some ts) e = rw (← listed-eq (lines_of_volume k [] v.place ts ++ []) ls e, append-nil (lines_of_volume k [] v.place ts)) (volume-proper k v.place ts)
 lines-proper k v (w ∷ vs) ls e = go (lines_of v.body) (lines-proper (suc k) w vs) e
   where
     go : (o : Option (List (List ℕ))) → ((rest : List Line) → list_volumes (suc k) (w ∷ vs) ≡ listed rest → proper rest ≡ true)
         → list_volume k v (w ∷ vs) o (list_volumes (suc k) (w ∷ vs)) ≡ listed ls → proper ls ≡ true
-    go none ih e = absurd (let z : ◌≡◌ {A = ℕ} 0 1 = cc in omega arith)
-    go (some ts) ih e =
+    go None ih e = absurd (let z : ◌≡◌ {A = ℕ} 0 1 = cc in omega arith)
+    go (Some ts) ih e =
         let (rest, p, q) = onto_inv (lines_of_volume k w.name v.place ts) (list_volumes (suc k) (w ∷ vs)) ls e in
         rw (← q) (proper-after (lines_of_volume k w.name v.place ts) rest (ih rest p))
 
@@ -154,6 +154,6 @@ listing-within a b k [] g h = tt
 listing-within a b k (v ∷ vs) g h = go (lines_of v.body) (list_volumes (suc (suc k)) vs) (listing-within a b (suc k) vs (omega (arith, g)) (omega (arith, h)))
   where
     go : (o : Option (List (List ℕ))) (r : Listed) → Within a b r → Within a b (list_volume (suc k) v vs o r)
-    go none r w = (g, omega (arith, h))
-    go (some ts) (listed ls) w = volume-among a b (suc k) (next_name vs) v.place g (omega (arith, h)) ts ls w
-    go (some ts) (no_lines u) w = w
+    go None r w = (g, omega (arith, h))
+    go (Some ts) (listed ls) w = volume-among a b (suc k) (next_name vs) v.place g (omega (arith, h)) ts ls w
+    go (Some ts) (no_lines u) w = w

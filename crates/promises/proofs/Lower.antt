@@ -1,8 +1,8 @@
 -- Two classes on the same lines: what the higher one's state is for the lower one, and that each line keeps it so.
+use Rattle.std.specs.Prelude.{Option, Some, None}
 use Prim.Native.Nat.{ℕ, zero, suc, ◌≤◌}
 use mathlib.Core.Bool.{Bool, true, false, cond, ◌&&◌, ◌||◌, not}
 use mathlib.Core.List.{List, [], ◌∷◌, map}
-use mathlib.Core.Option.{Option, none, some}
 use mathlib.Core.Path.{◌≡◌, refl, sym, ◌∙◌, ap}
 use native.Mathlib.Omega.{arith}
 use lib.Dec.{leb, ltb}
@@ -85,10 +85,10 @@ mask_rows z c d [] (o ∷ s) = o ∷ s
 mask_rows z c d (r ∷ rs) (o ∷ s) = cond (hides c d r.least) z o ∷ mask_rows z c d rs s
 
 abbrev pub mask_slots : Digits → Digits → List Rule → Slots → Slots
-mask_slots c d t s = mask_rows none c d t s
+mask_slots c d t s = mask_rows None c d t s
 
 abbrev pub wiped : Slots → Slots
-wiped s = map (λ o. none) s
+wiped s = map (λ o. None) s
 
 -- the digits from which on a placed symbol has a text
 abbrev pub text_least : Digits
@@ -313,7 +313,7 @@ module _ {A : Type 0} (z : A) (c d : Digits) where
 module _ (c d : Digits) where
   pub mask-blank : (t : List Rule) → mask_slots c d t (blank t) ≡ blank t
   mask-blank [] = refl
-  mask-blank (r ∷ t) = rw (cond_same {A = Option Value} (hides c d r.least) none, mask-blank t)
+  mask-blank (r ∷ t) = rw (cond_same {A = Option Value} (hides c d r.least) None, mask-blank t)
 
   pub wiped-blank : (t : List Rule) → wiped (blank t) ≡ blank t
   wiped-blank [] = refl
@@ -354,25 +354,25 @@ module _ (c d : Digits) where
   -- a line of a row that the class knows
   pub enter-own : {j : ℕ} {r : Rule} → Row placed_table j r → hides c d r.least ≡ false → (h : Held) (v : Value)
       → enter (lower_held c d h) 0 j v ≡ lower_held c d (enter h 0 j v)
-  enter-own {j = j} w e h v = rw (part-own h, mask_in none c d w e (part_of h 0) (some v)) (set_own h (set (part_of h 0) j (some v)))
+  enter-own {j = j} w e h v = rw (part-own h, mask_in None c d w e (part_of h 0) (Some v)) (set_own h (set (part_of h 0) j (Some v)))
 
   -- a line of a row that the class leaves out
   pub enter-hidden : {j : ℕ} {r : Rule} → Row placed_table j r → hides c d r.least ≡ true → (h : Held) (v : Value)
       → lower_held c d (enter h 0 j v) ≡ lower_held c d h
   enter-hidden {j = j} w e h v =
-      sym (set_own h (set (part_of h 0) j (some v))) ∙ rw (mask-out none c d w e (part_of h 0) (some v)) (set_own h (part_of h 0) ∙ ap (lower_held c d) (set-get_or h 0 []))
+      sym (set_own h (set (part_of h 0) j (Some v))) ∙ rw (mask-out None c d w e (part_of h 0) (Some v)) (set_own h (part_of h 0) ∙ ap (lower_held c d) (set-get_or h 0 []))
 
   pub enter-inner : hides c d text_least ≡ false → (h : Held) (p j : ℕ) (v : Value) → enter (lower_held c d h) (suc p) j v ≡ lower_held c d (enter h (suc p) j v)
   enter-inner e h p j v =
-      rw (part-inner h p, e) (ap (set (lower_held c d h) (suc p)) (sym (shown (set (part_of h (suc p)) j (some v)))) ∙ set-inner h p (set (part_of h (suc p)) j (some v)))
+      rw (part-inner h p, e) (ap (set (lower_held c d h) (suc p)) (sym (shown (set (part_of h (suc p)) j (Some v)))) ∙ set-inner h p (set (part_of h (suc p)) j (Some v)))
     where
       shown : (s : Slots) → inner_part c d s ≡ s
       shown s = rw e
 
   pub enter-wiped : hides c d text_least ≡ true → (h : Held) (p j : ℕ) (v : Value) → lower_held c d (enter h (suc p) j v) ≡ lower_held c d h
   enter-wiped e h p j v =
-      sym (set-inner h p (set (part_of h (suc p)) j (some v)))
-      ∙ ap (set (lower_held c d h) (suc p)) (wipes (set (part_of h (suc p)) j (some v)) ∙ wiped-set (part_of h (suc p)) j (some v) ∙ sym (wipes (part_of h (suc p))))
+      sym (set-inner h p (set (part_of h (suc p)) j (Some v)))
+      ∙ ap (set (lower_held c d h) (suc p)) (wipes (set (part_of h (suc p)) j (Some v)) ∙ wiped-set (part_of h (suc p)) j (Some v) ∙ sym (wipes (part_of h (suc p))))
       ∙ set-inner h p (part_of h (suc p)) ∙ ap (lower_held c d) (set-get_or h (suc p) [])
     where
       wipes : (s : Slots) → inner_part c d s ≡ wiped s

@@ -1,9 +1,9 @@
 -- Of which rows the figures of a set are: in a layer rows of its table, in a wire rows of the wire's, and no wire stands in a symbol. So the
 -- kinds of a wire's records are of nothing else.
+use Rattle.std.specs.Prelude.{Some}
 use Prim.Native.Nat.{ℕ, zero, suc, ◌-◌, ◌≤◌, ◌<◌}
 use mathlib.Core.Bool.{Bool, true, false, ◌&&◌, ◌||◌, not}
 use mathlib.Core.List.{List, [], ◌∷◌, ◌++◌}
-use mathlib.Core.Option.{some}
 use mathlib.Core.Path.{◌≡◌, refl}
 use native.Mathlib.Omega.{arith}
 use lib.Dec.{eqb, leb, ltb}
@@ -187,8 +187,8 @@ module _ (e : Env) (l : Line) where
   rows-symbol : (s : Set) (y : Symbol) (f : Form) → Kinds (symbol s y) → On Kinds (on_symbol s y f)
   rows-symbol s y f i =
       on-by_act Kinds _ _ _ _ (act (known_of s) symbol_table (digits_of (define_range s)) (rows_there y.own) f) i
-      (λ j v. on-unless Kinds (new_name s (symbol_own (set y.own j (some v)) y)) 15 _ λ _. i)
-      (λ m j v b. rows_open-symbol s (symbol_own (set y.own j (some v)) y) m i)
+      (λ j v. on-unless Kinds (new_name s (symbol_own (set y.own j (Some v)) y)) 15 _ λ _. i)
+      (λ m j v b. rows_open-symbol s (symbol_own (set y.own j (Some v)) y) m i)
       (all_more symbol_shapes s.symbols y i.0.0 i.1, i.0.1, i.0.2)
 
   rows-hide : (s : Set) (y : Symbol) (ps : List Point) (f : Form) → Kinds (hide s y ps) → On Kinds (on_hide e l s y ps f)

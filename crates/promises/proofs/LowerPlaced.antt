@@ -1,8 +1,8 @@
 -- A line in a placed symbol at two classes: what the lower one doesn't know it skips.
+use Rattle.std.specs.Prelude.{Option, None}
 use Prim.Native.Nat.{ℕ, zero, suc, min}
 use mathlib.Core.Bool.{Bool, true, false, cond, ◌||◌, not}
 use mathlib.Core.List.{List, [], ◌∷◌}
-use mathlib.Core.Option.{Option, none}
 use mathlib.Core.Path.{◌≡◌, refl, sym, ◌∙◌, ap}
 use native.Mathlib.Omega.{arith}
 use lib.Dec.{leb}
@@ -45,7 +45,7 @@ both-reaches c d l p q =
     and_true _ _ (le-leb l.middle (min c.middle d.middle) (omega arith)) (le-leb l.last (min c.last d.last) (omega arith))
 
 row-present : (must a b hidden : Bool) (o : Option Value) → (a ≡ true → b ≡ true) → (a ≡ true → hidden ≡ false)
-    → (not must || (not b || is_some o)) ≡ true → (not must || (not a || is_some (cond hidden none o))) ≡ true
+    → (not must || (not b || is_some o)) ≡ true → (not must || (not a || is_some (cond hidden None o))) ≡ true
 row-present false a b h o f g e = refl
 row-present true false b h o f g e = refl
 row-present true true b h o f g e = rw (g refl) (rw (f refl) at e)
@@ -163,7 +163,7 @@ module _ (low high : Class) (le : NotAbove low.symbols high.symbols) (took : ℕ
 
       same-marks : hides low.symbols d r.least ≡ false → full (part_of o' 0) ≡ full (part_of o 0)
       same-marks h =
-          get_or-map is_some (part_of o' 0) j none ∙ ap is_some (ap (λ t. get_or t j none) (part-own low.symbols d o) ∙ mask-slot none low.symbols d w.0 h (part_of o 0)) ∙ sym (get_or-map is_some (part_of o 0) j none)
+          get_or-map is_some (part_of o' 0) j None ∙ ap is_some (ap (λ t. get_or t j None) (part-own low.symbols d o) ∙ mask-slot None low.symbols d w.0 h (part_of o 0)) ∙ sym (get_or-map is_some (part_of o 0) j None)
 
       go : (b : Bool) → reaches high.symbols r.least ≡ b → (a : Bool) → reaches low.symbols r.least ≡ a
           → cond b (on_placed s k fs n o 0 (act_row (known_of s) d (full (part_of o 0)) j r x)) (on_unknown hi s k fs n o key x) ≡ got s'

@@ -1,9 +1,9 @@
 -- The records of the lower class are those of the higher, with what the lower doesn't know marked unread, and without the lines and arcs of
 -- wires that it skips.
+use Rattle.std.specs.Prelude.{Option, Some, None}
 use Prim.Native.Nat.{ℕ, zero, suc, ◌+◌, ◌<◌}
 use mathlib.Core.Bool.{Bool, true, false, cond, ◌&&◌, ◌||◌, not}
 use mathlib.Core.List.{List, [], ◌∷◌, ◌++◌, map, append-nil}
-use mathlib.Core.Option.{Option, none, some}
 use mathlib.Core.Path.{◌≡◌, refl, sym, ◌∙◌, ap, ap₂}
 use native.Mathlib.Omega.{arith}
 use lib.Dec.{eqb, ltb}
@@ -31,7 +31,7 @@ use Rattle.promises.proofs.LowerWireRecords.{nth, nth_mask, state_of_lem, mask-t
 use Rattle.promises.proofs.LowerKinds.{layer_rows, edge_rows, edge_row, wire_shape, layer_figure, symbol_figure, symbol_shapes, layer_figures, Rows}
 
 -- ── slots that are left out ──
-first-wiped : (s : Slots) → first_slot (wiped s) ≡ none
+first-wiped : (s : Slots) → first_slot (wiped s) ≡ None
 first-wiped [] = refl
 first-wiped (o ∷ s) = refl
 
@@ -39,20 +39,20 @@ other-wiped : (s : Slots) → other_slots (wiped s) ≡ wiped (other_slots s)
 other-wiped [] = refl
 other-wiped (o ∷ s) = refl
 
-nth-wiped : (n : ℕ) (s : Slots) → nth n (wiped s) ≡ none
+nth-wiped : (n : ℕ) (s : Slots) → nth n (wiped s) ≡ None
 nth-wiped zero s = first-wiped s
 nth-wiped (suc n) s = ap (nth n) (other-wiped s) ∙ nth-wiped n (other_slots s)
 
-nth-inner : (c d : Digits) (n : ℕ) (s : Slots) → nth n (inner_part c d s) ≡ cond (hides c d text_least) none (nth n s)
+nth-inner : (c d : Digits) (n : ℕ) (s : Slots) → nth n (inner_part c d s) ≡ cond (hides c d text_least) None (nth n s)
 nth-inner c d n s = go (hides c d text_least)
   where
-    go : (b : Bool) → nth n (cond b (wiped s) s) ≡ cond b none (nth n s)
+    go : (b : Bool) → nth n (cond b (wiped s) s) ≡ cond b None (nth n s)
     go true = nth-wiped n s
     go false = refl
 
 -- ── one number of a record ──
 -- a number that comes from a slot, and is 0 where there is none
-number_of : (f : Option Value → ℤ) → f none ≡ pos 0 → (b : Bool) (o o' : Option Value) → o' ≡ cond b none o → f o' ≡ instead b (pos 0) (f o)
+number_of : (f : Option Value → ℤ) → f None ≡ pos 0 → (b : Bool) (o o' : Option Value) → o' ≡ cond b None o → f o' ≡ instead b (pos 0) (f o)
 number_of f z true o o' e = ap f e ∙ z
 number_of f z false o o' e = ap f e
 
@@ -140,7 +140,7 @@ first-slots (r ∷ rs) s t = first-slot r (first_slot s) (put_slots rs (other_sl
 
 module _ (low high : Digits) (le : NotAbove low high) (d : Digits) where
   -- the line of `E_symbol=` alone has no attribute to leave out
-  first_alone : (v : Value) → lower_held low d ((some v ∷ []) ∷ []) ≡ (some v ∷ []) ∷ []
+  first_alone : (v : Value) → lower_held low d ((Some v ∷ []) ∷ []) ≡ (Some v ∷ []) ∷ []
   unfolding placed_table
   first_alone v = rw (known-shows low d (digits 0 0) (reaches-none low))
 
@@ -150,12 +150,12 @@ module _ (low high : Digits) (le : NotAbove low high) (d : Digits) where
   -- its slots as the lower class has them
   abbrev Masked : Slots → Slots → Slots → Slots → Type 0
   Masked s s' t t' =
-      (nth 0 s' ≡ nth 0 s) × (nth 1 s' ≡ cond (hides low d (digits 0 2)) none (nth 1 s)) × (nth 2 s' ≡ cond (hides low d (digits 0 3)) none (nth 2 s))
-      × (nth 3 s' ≡ cond (hides low d (digits 0 4)) none (nth 3 s)) × (nth 4 s' ≡ cond (hides low d (digits 0 5)) none (nth 4 s)) × (nth 5 s' ≡ cond (hides low d (digits 1 0)) none (nth 5 s))
-      × (nth 0 t' ≡ cond (hides low d (digits 0 2)) none (nth 0 t)) × (nth 1 t' ≡ cond (hides low d (digits 0 2)) none (nth 1 t))
+      (nth 0 s' ≡ nth 0 s) × (nth 1 s' ≡ cond (hides low d (digits 0 2)) None (nth 1 s)) × (nth 2 s' ≡ cond (hides low d (digits 0 3)) None (nth 2 s))
+      × (nth 3 s' ≡ cond (hides low d (digits 0 4)) None (nth 3 s)) × (nth 4 s' ≡ cond (hides low d (digits 0 5)) None (nth 4 s)) × (nth 5 s' ≡ cond (hides low d (digits 1 0)) None (nth 5 s))
+      × (nth 0 t' ≡ cond (hides low d (digits 0 2)) None (nth 0 t)) × (nth 1 t' ≡ cond (hides low d (digits 0 2)) None (nth 1 t))
 
   -- a number of a text or of an attribute, after so many others
-  as-lower : (o o' : Option Value) (b : Bool) → o' ≡ cond b none o → (f : List ℤ → ℤ) → f [] ≡ pos 0 → f (numbers_of o') ≡ instead b (pos 0) (f (numbers_of o))
+  as-lower : (o o' : Option Value) (b : Bool) → o' ≡ cond b None o → (f : List ℤ → ℤ) → f [] ≡ pos 0 → f (numbers_of o') ≡ instead b (pos 0) (f (numbers_of o))
   as-lower o o' b e f z = number_of (λ o. f (numbers_of o)) z b o o' e
 
   sixteen-lower : (owner volume line : ℕ) (s s' t t' : Slots) → Masked s s' t t'
@@ -170,11 +170,11 @@ module _ (low high : Digits) (le : NotAbove low high) (d : Digits) where
       ∷ as-lower (nth 0 t) (nth 0 t') (hides low d (digits 0 2)) x (λ z. first_or0 (others (others (others (others z))))) refl i ∷ as-lower (nth 0 t) (nth 0 t') (hides low d (digits 0 2)) x (λ z. first_or0 (others (others (others (others (others z)))))) refl i
       ∷ as-lower (nth 0 t) (nth 0 t') (hides low d (digits 0 2)) x (λ z. first_or0 (others (others (others (others (others (others z))))))) refl i ∷ as-lower (nth 0 t) (nth 0 t') (hides low d (digits 0 2)) x (λ z. first_or0 (others (others (others (others (others (others (others z)))))))) refl i
       ∷ as-lower (nth 1 t) (nth 1 t') (hides low d (digits 0 2)) y first_or0 refl i ∷ as-lower (nth 1 t) (nth 1 t') (hides low d (digits 0 2)) y (λ z. first_or0 (others z)) refl i
-      ∷ state_of_lem state_of none (hides low d (digits 0 2)) (hides high d (digits 0 2)) (up (digits 0 2)) (nth 1 s) (nth 1 s') b i ∷ state_of_lem state_of none (hides low d (digits 0 3)) (hides high d (digits 0 3)) (up (digits 0 3)) (nth 2 s) (nth 2 s') e i ∷ state_of_lem state_of none (hides low d (digits 0 4)) (hides high d (digits 0 4)) (up (digits 0 4)) (nth 3 s) (nth 3 s') f i ∷ state_of_lem state_of none (hides low d (digits 0 5)) (hides high d (digits 0 5)) (up (digits 0 5)) (nth 4 s) (nth 4 s') g i ∷ state_of_lem state_of none (hides low d (digits 1 0)) (hides high d (digits 1 0)) (up (digits 1 0)) (nth 5 s) (nth 5 s') h i ∷ pos 0 ∷ []
+      ∷ state_of_lem state_of None (hides low d (digits 0 2)) (hides high d (digits 0 2)) (up (digits 0 2)) (nth 1 s) (nth 1 s') b i ∷ state_of_lem state_of None (hides low d (digits 0 3)) (hides high d (digits 0 3)) (up (digits 0 3)) (nth 2 s) (nth 2 s') e i ∷ state_of_lem state_of None (hides low d (digits 0 4)) (hides high d (digits 0 4)) (up (digits 0 4)) (nth 3 s) (nth 3 s') f i ∷ state_of_lem state_of None (hides low d (digits 0 5)) (hides high d (digits 0 5)) (up (digits 0 5)) (nth 4 s) (nth 4 s') g i ∷ state_of_lem state_of None (hides low d (digits 1 0)) (hides high d (digits 1 0)) (up (digits 1 0)) (nth 5 s) (nth 5 s') h i ∷ pos 0 ∷ []
 
-  own_masked : (s : Slots) → (nth 0 (mask_slots low d placed_table s) ≡ nth 0 s) × (nth 1 (mask_slots low d placed_table s) ≡ cond (hides low d (digits 0 2)) none (nth 1 s))
-      × (nth 2 (mask_slots low d placed_table s) ≡ cond (hides low d (digits 0 3)) none (nth 2 s)) × (nth 3 (mask_slots low d placed_table s) ≡ cond (hides low d (digits 0 4)) none (nth 3 s))
-      × (nth 4 (mask_slots low d placed_table s) ≡ cond (hides low d (digits 0 5)) none (nth 4 s)) × (nth 5 (mask_slots low d placed_table s) ≡ cond (hides low d (digits 1 0)) none (nth 5 s))
+  own_masked : (s : Slots) → (nth 0 (mask_slots low d placed_table s) ≡ nth 0 s) × (nth 1 (mask_slots low d placed_table s) ≡ cond (hides low d (digits 0 2)) None (nth 1 s))
+      × (nth 2 (mask_slots low d placed_table s) ≡ cond (hides low d (digits 0 3)) None (nth 2 s)) × (nth 3 (mask_slots low d placed_table s) ≡ cond (hides low d (digits 0 4)) None (nth 3 s))
+      × (nth 4 (mask_slots low d placed_table s) ≡ cond (hides low d (digits 0 5)) None (nth 4 s)) × (nth 5 (mask_slots low d placed_table s) ≡ cond (hides low d (digits 1 0)) None (nth 5 s))
   unfolding placed_table
   own_masked s = (
     nth_mask low d {t = placed_table} here s ∙ rw (known-shows low d (digits 0 0) (reaches-none low)),
@@ -252,8 +252,8 @@ module _ (low high : Class) (le : ClassNotAbove low high) (agree : Agree low) (d
   points-same : (kind owner volume : ℕ) → special (pos kind) ≡ false → (ps : List Point) → Same (point_records kind owner volume ps)
   points-same kind owner volume e [] = refl
   points-same kind owner volume e (p ∷ ps) =
-      cons_same (put_slot (rule_at (point_table true) 0) (some (nums p.values)) (start kind owner volume p.line)) (point_records kind owner volume ps)
-      (rw (first-slot (rule_at (point_table true) 0) (some (nums p.values)) (start kind owner volume p.line)) e) (points-same kind owner volume e ps)
+      cons_same (put_slot (rule_at (point_table true) 0) (Some (nums p.values)) (start kind owner volume p.line)) (point_records kind owner volume ps)
+      (rw (first-slot (rule_at (point_table true) 0) (Some (nums p.values)) (start kind owner volume p.line)) e) (points-same kind owner volume e ps)
 
   -- ── figures in layers ──
   placed-down : (t : List Rule) (owner volume line : ℕ) (h : Held) → placed_record (view low t) 0 owner volume line (lower_held low.symbols d h) ∷ [] ≡ down (placed_record (view high t) 0 owner volume line h ∷ [])
@@ -265,7 +265,7 @@ module _ (low high : Class) (le : ClassNotAbove low high) (agree : Agree low) (d
   line-lower t owner volume n j v below = go (eqb j 6) refl
     where
       alone : Held
-      alone = (some (nums v) ∷ []) ∷ []
+      alone = (Some (nums v) ∷ []) ∷ []
 
       kept : lower_held low.symbols d alone ≡ alone
       kept = first_alone low.symbols high.symbols le.symbols d (nums v)
@@ -275,14 +275,14 @@ module _ (low high : Class) (le : ClassNotAbove low high) (agree : Agree low) (d
       go true e = ap (λ h. placed_record (view low t) 0 owner volume n h ∷ []) (sym kept) ∙ placed-down t owner volume n alone
       go false e =
           sym (cons_same (plain_record (view high t) 0 owner volume n j v) []
-          (rw (first-slot (rule_at t j) (some (nums v)) (start (10 + 0 + j) owner volume n))
+          (rw (first-slot (rule_at t j) (Some (nums v)) (start (10 + 0 + j) owner volume n))
           (low-kind (10 + 0 + j) (let h = ltb-true j layer_rows below in omega (arith, h)) (ne_eqb (10 + 0 + j) 16 (λ z. eqb-false j 6 e (omega arith))))) refl)
 
   -- ── wires ──
   edge-first : (owner volume : ℕ) (e : Edge) → first_or0 (edge_record owner volume e) ≡ pos (20 + e.row)
   edge-first owner volume e =
-      first-set (put_slot (rule_at wire_table e.row) (some (nums e.values)) (start (20 + e.row) owner volume e.line)) 10 (pos e.join)
-      ∙ first-slot (rule_at wire_table e.row) (some (nums e.values)) (start (20 + e.row) owner volume e.line)
+      first-set (put_slot (rule_at wire_table e.row) (Some (nums e.values)) (start (20 + e.row) owner volume e.line)) 10 (pos e.join)
+      ∙ first-slot (rule_at wire_table e.row) (Some (nums e.values)) (start (20 + e.row) owner volume e.line)
 
   -- a class that knows wires has all their records
   edges-same : knows_wires low ≡ true → (owner volume : ℕ) (es : List Edge) → Same (edge_records owner volume es)
@@ -406,8 +406,8 @@ module _ (low high : Class) (le : ClassNotAbove low high) (agree : Agree low) (d
       line_same : (m j : ℕ) (v : List Num) → special (first_or0 (line_record plain_view 20 n 1 m j v)) ≡ false
       line_same m j v =
           by_cond (λ r. special (first_or0 r) ≡ false) (eqb j 6)
-          (λ _. ap (λ r. special (first_or0 r)) (placed_as_lem plain_view 20 n 1 m ((some (nums v) ∷ []) ∷ [])))
-          (λ _. rw (first-slot (rule_at figure_table j) (some (nums v)) (start (10 + 20 + j) n 1 m)) (high-kind (10 + 20 + j) (omega arith)))
+          (λ _. ap (λ r. special (first_or0 r)) (placed_as_lem plain_view 20 n 1 m ((Some (nums v) ∷ []) ∷ [])))
+          (λ _. rw (first-slot (rule_at figure_table j) (Some (nums v)) (start (10 + 20 + j) n 1 m)) (high-kind (10 + 20 + j) (omega arith)))
 
       one : (f : Figure) → symbol_figure f ≡ true → Same (figure_records plain_view 20 n 1 f)
       one (plain m j v) w = cons_same (line_record plain_view 20 n 1 m j v) [] (line_same m j v) refl

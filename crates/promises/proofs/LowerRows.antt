@@ -1,8 +1,8 @@
 -- What a line of a row comes to, and rows whose lines can be skipped.
+use Rattle.std.specs.Prelude.{Option, Some, None}
 use Prim.Native.Nat.{ℕ}
 use mathlib.Core.Bool.{Bool, true, false, cond, ◌&&◌, ◌||◌, not}
 use mathlib.Core.List.{List, [], ◌∷◌}
-use mathlib.Core.Option.{Option, none, some}
 use mathlib.Core.Path.{◌≡◌, refl}
 use lib.Dec.{eqb}
 use borrow.Author.Tests.{eqb-true}
@@ -140,9 +140,9 @@ opens-text l key r x t o f = go r.holds refl t f
     is-brace (equals at c) e = clash e (not-opener at c (is_free r.holds))
       where
         by-stem : (at : ℕ) (c : List ℕ) (s : Option (List ℕ)) → is_opener (by_stem at c s) ≡ false
-        by-stem at c none = refl
-        by-stem at c (some []) = refl
-        by-stem at c (some (b ∷ t)) = refl
+        by-stem at c None = refl
+        by-stem at c (Some []) = refl
+        by-stem at c (Some (b ∷ t)) = refl
 
         not-opener : (at : ℕ) (c : List ℕ) (f : Bool) → is_opener (cond f (free_shape_of (equals at c)) (shape_of (equals at c))) ≡ false
         not-opener at [] true = refl

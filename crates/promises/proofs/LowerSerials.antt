@@ -1,8 +1,8 @@
 -- Own serial numbers: the lower class has read no other ones than the higher. Partners: where the lower tests them, both have read the same.
+use Rattle.std.specs.Prelude.{Option, Some, None}
 use Prim.Native.Nat.{ℕ}
 use mathlib.Core.Bool.{Bool, true, false, cond, ◌&&◌, ◌||◌, not}
 use mathlib.Core.List.{List, [], ◌∷◌, ◌++◌, map}
-use mathlib.Core.Option.{Option, none, some}
 use mathlib.Core.Path.{◌≡◌, refl, ◌∙◌, ap, ap₂}
 use lib.Dec.{eqb}
 use lib.ListN.{get_or, drop}
@@ -62,16 +62,16 @@ abbrev serial_least : Digits
 serial_least = digits 1 0
 
 module _ (c d : Digits) where
-  placed-serial : (h : Held) → held "serial" placed_table (part_of (lower_held c d h) 0) ≡ cond (hides c d serial_least) none (held "serial" placed_table (part_of h 0))
+  placed-serial : (h : Held) → held "serial" placed_table (part_of (lower_held c d h) 0) ≡ cond (hides c d serial_least) None (held "serial" placed_table (part_of h 0))
   unfolding placed_table
-  placed-serial h = rw (part-own c d h) (mask_at none c d {t = placed_table} (there (there (there (there (there here))))) (part_of h 0))
+  placed-serial h = rw (part-own c d h) (mask_at None c d {t = placed_table} (there (there (there (there (there here))))) (part_of h 0))
 
-  wire-serial : (w : Wire) → get_or (lower_read c d w).own wire_serial_row none ≡ cond (hides c d serial_least) none (get_or w.own wire_serial_row none)
+  wire-serial : (w : Wire) → get_or (lower_read c d w).own wire_serial_row None ≡ cond (hides c d serial_least) None (get_or w.own wire_serial_row None)
   unfolding wire_table
-  wire-serial w = mask_at none c d {t = wire_table} (there (there (there (there (there (there (there (there (there here))))))))) w.own
+  wire-serial w = mask_at None c d {t = wire_table} (there (there (there (there (there (there (there (there (there here))))))))) w.own
 
 -- what is read of a slot that may be left out is among what is read of it
-sub-slot : (f : Option Value → List ℕ) → f none ≡ [] → (b : Bool) (o o' : Option Value) → o' ≡ cond b none o → Sub (f o') (f o)
+sub-slot : (f : Option Value → List ℕ) → f None ≡ [] → (b : Bool) (o o' : Option Value) → o' ≡ cond b None o → Sub (f o') (f o)
 sub-slot f z true o o' q m e = clash e (rw (q, z))
 sub-slot f z false o o' q m e = rw q at e
 
@@ -84,7 +84,7 @@ module _ (c d : Class) where
     where
       none_read : (b : Bool) → has_number m (figure_serial (cond b (wired n (lower_read c.wires d.wires w)) (passed n))) ≡ true → has_number m (figure_serial (wired n w)) ≡ true
       none_read true e =
-          sub-slot own_number refl (hides c.wires d.wires serial_least) (get_or w.own wire_serial_row none) (get_or (lower_read c.wires d.wires w).own wire_serial_row none)
+          sub-slot own_number refl (hides c.wires d.wires serial_least) (get_or w.own wire_serial_row None) (get_or (lower_read c.wires d.wires w).own wire_serial_row None)
           (wire-serial c.wires d.wires w) m e
       none_read false e = clash e refl
   serial_sub (passed n) m e = e
@@ -119,16 +119,16 @@ module _ (c d : Class) where
   pub number-new : (took : ℕ) (s : Set) (fs : List Figure) (j : ℕ) (v : Value) → new_number s fs j v ≡ true → new_number (lower_in took c d s) (lower_figures c d fs) j v ≡ true
   number-new took s fs j v e = go (not (eqb j wire_serial_row)) e
     where
-      go : (b : Bool) → (b || none_of (own_number (some v)) (numbers_so_far s fs)) ≡ true → (b || none_of (own_number (some v)) (numbers_so_far (lower_in took c d s) (lower_figures c d fs))) ≡ true
+      go : (b : Bool) → (b || none_of (own_number (Some v)) (numbers_so_far s fs)) ≡ true → (b || none_of (own_number (Some v)) (numbers_so_far (lower_in took c d s) (lower_figures c d fs))) ≡ true
       go true e = refl
-      go false e = none_sub (own_number (some v)) (numbers_so_far (lower_in took c d s) (lower_figures c d fs)) (numbers_so_far s fs) (so-far_sub took s fs) e
+      go false e = none_sub (own_number (Some v)) (numbers_so_far (lower_in took c d s) (lower_figures c d fs)) (numbers_so_far s fs) (so-far_sub took s fs) e
 
 -- ── a class that knows both serials has read the same own numbers and partners ──
 module _ (c d : Class) (symbols : knows_serials c.symbols ≡ true) (wires : knows_serials c.wires ≡ true) (reads : knows_wires c ≡ true) where
   placed-kept : (h : Held) → held "serial" placed_table (part_of (lower_held c.symbols d.symbols h) 0) ≡ held "serial" placed_table (part_of h 0)
   placed-kept h = placed-serial c.symbols d.symbols h ∙ rw (known-shows c.symbols d.symbols serial_least symbols)
 
-  wire-kept : (w : Wire) → get_or (lower_read c.wires d.wires w).own wire_serial_row none ≡ get_or w.own wire_serial_row none
+  wire-kept : (w : Wire) → get_or (lower_read c.wires d.wires w).own wire_serial_row None ≡ get_or w.own wire_serial_row None
   wire-kept w = wire-serial c.wires d.wires w ∙ rw (known-shows c.wires d.wires serial_least wires)
 
   serial-same : (f : Figure) → figure_serial (lower_figure c d f) ≡ figure_serial f

@@ -1,9 +1,9 @@
 -- A wire's two records at two classes, number by number: what the lower doesn't know is zeros and state 3; of a wire that it skips whole
 -- the states alone are left.
+use Rattle.std.specs.Prelude.{Option, None}
 use Prim.Native.Nat.{ℕ, zero, suc, ◌/◌}
 use mathlib.Core.Bool.{Bool, true, false, cond, ◌&&◌, not}
 use mathlib.Core.List.{List, [], ◌∷◌, ◌++◌, map}
-use mathlib.Core.Option.{Option, none}
 use mathlib.Core.Path.{◌≡◌, refl, sym, ◌∙◌, ap}
 use native.Mathlib.Omega.{arith}
 use lib.Dec.{eqb}
@@ -25,8 +25,8 @@ use Rattle.promises.proofs.Lower.{hides-up, known-shows, mask_rows, mask_slots, 
 
 -- ── slots by their number ──
 module _ (c d : Digits) where
-  first_mask : (r : Rule) (rs : List Rule) (s : Slots) → first_slot (mask_slots c d (r ∷ rs) s) ≡ cond (hides c d r.least) none (first_slot s)
-  first_mask r rs [] = sym (cond_same (hides c d r.least) none)
+  first_mask : (r : Rule) (rs : List Rule) (s : Slots) → first_slot (mask_slots c d (r ∷ rs) s) ≡ cond (hides c d r.least) None (first_slot s)
+  first_mask r rs [] = sym (cond_same (hides c d r.least) None)
   first_mask r rs (o ∷ s) = refl
 
   other_mask : (r : Rule) (rs : List Rule) (s : Slots) → other_slots (mask_slots c d (r ∷ rs) s) ≡ mask_slots c d rs (other_slots s)
@@ -37,7 +37,7 @@ abbrev pub nth : ℕ → Slots → Option Value
 nth zero s = first_slot s
 nth (suc n) s = nth n (other_slots s)
 
-pub nth_mask : (c d : Digits) {t : List Rule} {i : ℕ} {r : Rule} → Row t i r → (s : Slots) → nth i (mask_slots c d t s) ≡ cond (hides c d r.least) none (nth i s)
+pub nth_mask : (c d : Digits) {t : List Rule} {i : ℕ} {r : Rule} → Row t i r → (s : Slots) → nth i (mask_slots c d t s) ≡ cond (hides c d r.least) None (nth i s)
 nth_mask c d (here {r = r} {rs = rs}) s = first_mask c d r rs s
 nth_mask c d (there {q = q} {rs = rs} {i = i} w) s = ap (nth i) (other_mask c d q rs s) ∙ nth_mask c d w (other_slots s)
 
@@ -111,13 +111,13 @@ module _ (owner volume line elements : ℕ) (four digit mark : ℤ) where
     num-out true = refl
     num-out false = refl
 
-    length-out : (b : Bool) → unread_one b (at wire_attributes 3) (first_of direc piend num o s2 s3 s4 s6) ≡ first_of direc piend num (cond b none o) s2 s3 s4 (instead b (pos 3) s6)
+    length-out : (b : Bool) → unread_one b (at wire_attributes 3) (first_of direc piend num o s2 s3 s4 s6) ≡ first_of direc piend num (cond b None o) s2 s3 s4 (instead b (pos 3) s6)
     length-out true = refl
     length-out false = refl
 
   first_out : (c d : Digits) (direc piend num : List (List Num)) (o : Option Value) (s2 s3 s4 s6 : ℤ)
       → unread_each c d wire_attributes (first_of direc piend num o s2 s3 s4 s6)
-      ≡ first_of (cond (hides c d (digits 0 2)) [] direc) (cond (hides c d (digits 0 3)) [] piend) (cond (hides c d (digits 0 4)) [] num) (cond (hides c d (digits 0 6)) none o)
+      ≡ first_of (cond (hides c d (digits 0 2)) [] direc) (cond (hides c d (digits 0 3)) [] piend) (cond (hides c d (digits 0 4)) [] num) (cond (hides c d (digits 0 6)) None o)
       (instead (hides c d (digits 0 2)) (pos 3) s2) (instead (hides c d (digits 0 3)) (pos 3) s3) (instead (hides c d (digits 0 4)) (pos 3) s4) (instead (hides c d (digits 0 6)) (pos 3) s6)
   first_out c d direc piend num o s2 s3 s4 s6 =
       let b2 = hides c d (digits 0 2) in
@@ -125,30 +125,30 @@ module _ (owner volume line elements : ℕ) (four digit mark : ℤ) where
       let b4 = hides c d (digits 0 4) in
       let b6 = hides c d (digits 0 6) in
       ap (λ r. unread_one b2 (at wire_attributes 0) (unread_one b3 (at wire_attributes 1) (unread_one b4 (at wire_attributes 2) r))) (length-out direc piend num o s2 s3 s4 s6 b6)
-      ∙ ap (λ r. unread_one b2 (at wire_attributes 0) (unread_one b3 (at wire_attributes 1) r)) (num-out direc piend num (cond b6 none o) s2 s3 s4 (instead b6 (pos 3) s6) b4)
-      ∙ ap (unread_one b2 (at wire_attributes 0)) (piend-out direc piend (cond b4 [] num) (cond b6 none o) s2 s3 (instead b4 (pos 3) s4) (instead b6 (pos 3) s6) b3)
-      ∙ direc-out direc (cond b3 [] piend) (cond b4 [] num) (cond b6 none o) s2 (instead b3 (pos 3) s3) (instead b4 (pos 3) s4) (instead b6 (pos 3) s6) b2
+      ∙ ap (λ r. unread_one b2 (at wire_attributes 0) (unread_one b3 (at wire_attributes 1) r)) (num-out direc piend num (cond b6 None o) s2 s3 s4 (instead b6 (pos 3) s6) b4)
+      ∙ ap (unread_one b2 (at wire_attributes 0)) (piend-out direc piend (cond b4 [] num) (cond b6 None o) s2 s3 (instead b4 (pos 3) s4) (instead b6 (pos 3) s6) b3)
+      ∙ direc-out direc (cond b3 [] piend) (cond b4 [] num) (cond b6 None o) s2 (instead b3 (pos 3) s3) (instead b4 (pos 3) s4) (instead b6 (pos 3) s6) b2
 
   module _ (texts : List Slots) (circuit power serial : Option Value) (s5 s7 s8 s9 : ℤ) where
     texts-out : (b : Bool) → unread_one b (at more_attributes 0) (second_of texts circuit power serial s5 s7 s8 s9) ≡ second_of (cond b [] texts) circuit power serial (instead b (pos 3) s5) s7 s8 s9
     texts-out true = refl
     texts-out false = refl
 
-    circuit-out : (b : Bool) → unread_one b (at more_attributes 1) (second_of texts circuit power serial s5 s7 s8 s9) ≡ second_of texts (cond b none circuit) power serial s5 (instead b (pos 3) s7) s8 s9
+    circuit-out : (b : Bool) → unread_one b (at more_attributes 1) (second_of texts circuit power serial s5 s7 s8 s9) ≡ second_of texts (cond b None circuit) power serial s5 (instead b (pos 3) s7) s8 s9
     circuit-out true = refl
     circuit-out false = refl
 
-    power-out : (b : Bool) → unread_one b (at more_attributes 2) (second_of texts circuit power serial s5 s7 s8 s9) ≡ second_of texts circuit (cond b none power) serial s5 s7 (instead b (pos 3) s8) s9
+    power-out : (b : Bool) → unread_one b (at more_attributes 2) (second_of texts circuit power serial s5 s7 s8 s9) ≡ second_of texts circuit (cond b None power) serial s5 s7 (instead b (pos 3) s8) s9
     power-out true = refl
     power-out false = refl
 
-    serial-out : (b : Bool) → unread_one b (at more_attributes 3) (second_of texts circuit power serial s5 s7 s8 s9) ≡ second_of texts circuit power (cond b none serial) s5 s7 s8 (instead b (pos 3) s9)
+    serial-out : (b : Bool) → unread_one b (at more_attributes 3) (second_of texts circuit power serial s5 s7 s8 s9) ≡ second_of texts circuit power (cond b None serial) s5 s7 s8 (instead b (pos 3) s9)
     serial-out true = refl
     serial-out false = refl
 
   second-out : (c d : Digits) (texts : List Slots) (circuit power serial : Option Value) (s5 s7 s8 s9 : ℤ)
       → unread_each c d more_attributes (second_of texts circuit power serial s5 s7 s8 s9)
-      ≡ second_of (cond (hides c d (digits 0 5)) [] texts) (cond (hides c d (digits 0 7)) none circuit) (cond (hides c d (digits 0 8)) none power) (cond (hides c d (digits 1 0)) none serial)
+      ≡ second_of (cond (hides c d (digits 0 5)) [] texts) (cond (hides c d (digits 0 7)) None circuit) (cond (hides c d (digits 0 8)) None power) (cond (hides c d (digits 1 0)) None serial)
       (instead (hides c d (digits 0 5)) (pos 3) s5) (instead (hides c d (digits 0 7)) (pos 3) s7) (instead (hides c d (digits 0 8)) (pos 3) s8) (instead (hides c d (digits 1 0)) (pos 3) s9)
   second-out c d texts circuit power serial s5 s7 s8 s9 =
       let b5 = hides c d (digits 0 5) in
@@ -156,9 +156,9 @@ module _ (owner volume line elements : ℕ) (four digit mark : ℤ) where
       let b8 = hides c d (digits 0 8) in
       let b9 = hides c d (digits 1 0) in
       ap (λ r. unread_one b5 (at more_attributes 0) (unread_one b7 (at more_attributes 1) (unread_one b8 (at more_attributes 2) r))) (serial-out texts circuit power serial s5 s7 s8 s9 b9)
-      ∙ ap (λ r. unread_one b5 (at more_attributes 0) (unread_one b7 (at more_attributes 1) r)) (power-out texts circuit power (cond b9 none serial) s5 s7 s8 (instead b9 (pos 3) s9) b8)
-      ∙ ap (unread_one b5 (at more_attributes 0)) (circuit-out texts circuit (cond b8 none power) (cond b9 none serial) s5 s7 (instead b8 (pos 3) s8) (instead b9 (pos 3) s9) b7)
-      ∙ texts-out texts (cond b7 none circuit) (cond b8 none power) (cond b9 none serial) s5 (instead b7 (pos 3) s7) (instead b8 (pos 3) s8) (instead b9 (pos 3) s9) b5
+      ∙ ap (λ r. unread_one b5 (at more_attributes 0) (unread_one b7 (at more_attributes 1) r)) (power-out texts circuit power (cond b9 None serial) s5 s7 s8 (instead b9 (pos 3) s9) b8)
+      ∙ ap (unread_one b5 (at more_attributes 0)) (circuit-out texts circuit (cond b8 None power) (cond b9 None serial) s5 s7 (instead b8 (pos 3) s8) (instead b9 (pos 3) s9) b7)
+      ∙ texts-out texts (cond b7 None circuit) (cond b8 None power) (cond b9 None serial) s5 (instead b7 (pos 3) s7) (instead b8 (pos 3) s8) (instead b9 (pos 3) s9) b5
 
 -- a wire that is read, at a class's wire part, in a file of the range d
 abbrev group : Wire → ℕ → List (List Num)
@@ -224,9 +224,9 @@ module _ (low high : Digits) (le : NotAbove low high) (d : Digits) where
   unfolding wire_table
   group-lower x = (mask_at [] low d {t = group_table} here x.groups, mask_at [] low d {t = group_table} (there here) x.groups, mask_at [] low d {t = group_table} (there (there here)) x.groups)
 
-  own-lower : (s : Slots) → (nth 0 (mask_slots low d wire_table s) ≡ nth 0 s) × (nth 6 (mask_slots low d wire_table s) ≡ cond (hides low d (digits 0 6)) none (nth 6 s))
-      × (nth 7 (mask_slots low d wire_table s) ≡ cond (hides low d (digits 0 7)) none (nth 7 s)) × (nth 8 (mask_slots low d wire_table s) ≡ cond (hides low d (digits 0 8)) none (nth 8 s))
-      × (nth 9 (mask_slots low d wire_table s) ≡ cond (hides low d (digits 1 0)) none (nth 9 s))
+  own-lower : (s : Slots) → (nth 0 (mask_slots low d wire_table s) ≡ nth 0 s) × (nth 6 (mask_slots low d wire_table s) ≡ cond (hides low d (digits 0 6)) None (nth 6 s))
+      × (nth 7 (mask_slots low d wire_table s) ≡ cond (hides low d (digits 0 7)) None (nth 7 s)) × (nth 8 (mask_slots low d wire_table s) ≡ cond (hides low d (digits 0 8)) None (nth 8 s))
+      × (nth 9 (mask_slots low d wire_table s) ≡ cond (hides low d (digits 1 0)) None (nth 9 s))
   unfolding wire_table
   own-lower s = (
     nth_mask low d {t = wire_table} here s ∙ rw (known-shows low d (digits 0 0) (reaches-none low)),
@@ -245,7 +245,7 @@ module _ (low high : Digits) (le : NotAbove low high) (d : Digits) where
       (state_of_lem (λ gs. state_of_many (length gs)) [] (hides low d (digits 0 2)) (hides high d (digits 0 2)) (up (digits 0 2)) (group x 0) (group (lower_read low d x) 0) g2 i)
       (state_of_lem (λ gs. state_of_many (length gs)) [] (hides low d (digits 0 3)) (hides high d (digits 0 3)) (up (digits 0 3)) (group x 1) (group (lower_read low d x) 1) g3 i)
       (state_of_lem (λ gs. state_of_many (length gs)) [] (hides low d (digits 0 4)) (hides high d (digits 0 4)) (up (digits 0 4)) (group x 2) (group (lower_read low d x) 2) g4 i)
-      (state_of_lem state_of none (hides low d (digits 0 6)) (hides high d (digits 0 6)) (up (digits 0 6)) (nth 6 x.own) (nth 6 (lower_read low d x).own) o6 i))
+      (state_of_lem state_of None (hides low d (digits 0 6)) (hides high d (digits 0 6)) (up (digits 0 6)) (nth 6 x.own) (nth 6 (lower_read low d x).own) o6 i))
       ∙ sym (first_out owner volume line (length x.elements) (first_or0 (numbers_of (nth 0 x.own))) (pos (range / 100)) (pos 0) low d (group x 0) (group x 1) (group x 2) (nth 6 x.own)
       (unread_or high d (digits 0 2) (state_of_many (length (group x 0)))) (unread_or high d (digits 0 3) (state_of_many (length (group x 1))))
       (unread_or high d (digits 0 4) (state_of_many (length (group x 2)))) (unread_or high d (digits 0 6) (state_of (nth 6 x.own))))
@@ -255,9 +255,9 @@ module _ (low high : Digits) (le : NotAbove low high) (d : Digits) where
       let (o0, o6, o7, o8, o9) = own-lower x.own in
       (λ i. second_of owner volume line 0 (pos 0) (pos 0) (pos 0) (lower_read low d x).texts (o7 i) (o8 i) (o9 i)
       (state_of_lem (λ ts. state_of_many (length ts)) [] (hides low d (digits 0 5)) (hides high d (digits 0 5)) (up (digits 0 5)) x.texts (lower_read low d x).texts refl i)
-      (state_of_lem state_of none (hides low d (digits 0 7)) (hides high d (digits 0 7)) (up (digits 0 7)) (nth 7 x.own) (nth 7 (lower_read low d x).own) o7 i)
-      (state_of_lem state_of none (hides low d (digits 0 8)) (hides high d (digits 0 8)) (up (digits 0 8)) (nth 8 x.own) (nth 8 (lower_read low d x).own) o8 i)
-      (state_of_lem state_of none (hides low d (digits 1 0)) (hides high d (digits 1 0)) (up (digits 1 0)) (nth 9 x.own) (nth 9 (lower_read low d x).own) o9 i))
+      (state_of_lem state_of None (hides low d (digits 0 7)) (hides high d (digits 0 7)) (up (digits 0 7)) (nth 7 x.own) (nth 7 (lower_read low d x).own) o7 i)
+      (state_of_lem state_of None (hides low d (digits 0 8)) (hides high d (digits 0 8)) (up (digits 0 8)) (nth 8 x.own) (nth 8 (lower_read low d x).own) o8 i)
+      (state_of_lem state_of None (hides low d (digits 1 0)) (hides high d (digits 1 0)) (up (digits 1 0)) (nth 9 x.own) (nth 9 (lower_read low d x).own) o9 i))
       ∙ sym (second-out owner volume line 0 (pos 0) (pos 0) (pos 0) low d x.texts (nth 7 x.own) (nth 8 x.own) (nth 9 x.own)
       (unread_or high d (digits 0 5) (state_of_many (length x.texts))) (unread_or high d (digits 0 7) (state_of (nth 7 x.own)))
       (unread_or high d (digits 0 8) (state_of (nth 8 x.own))) (unread_or high d (digits 1 0) (state_of (nth 9 x.own))))
@@ -276,8 +276,8 @@ module _ (d : Digits) (owner volume line : ℕ) where
   -- by which attributes the file allows: those of the first record, those of the second
   abbrev skipped : (b2 b3 b4 b6 b5 b7 b8 b9 : Bool) → List (List ℤ)
   skipped b2 b3 b4 b6 b5 b7 b8 b9 =
-      first_of owner volume line 0 (pos 0) (pos 0) (pos 3) [] [] [] none (cond b2 (pos 3) (pos 0)) (cond b3 (pos 3) (pos 0)) (cond b4 (pos 3) (pos 0)) (cond b6 (pos 3) (pos 0))
-      ∷ second_of owner volume line 0 (pos 0) (pos 0) (pos 3) [] none none none (cond b5 (pos 3) (pos 0)) (cond b7 (pos 3) (pos 0)) (cond b8 (pos 3) (pos 0)) (cond b9 (pos 3) (pos 0))
+      first_of owner volume line 0 (pos 0) (pos 0) (pos 3) [] [] [] None (cond b2 (pos 3) (pos 0)) (cond b3 (pos 3) (pos 0)) (cond b4 (pos 3) (pos 0)) (cond b6 (pos 3) (pos 0))
+      ∷ second_of owner volume line 0 (pos 0) (pos 0) (pos 3) [] None None None (cond b5 (pos 3) (pos 0)) (cond b7 (pos 3) (pos 0)) (cond b8 (pos 3) (pos 0)) (cond b9 (pos 3) (pos 0))
       ∷ []
 
   -- what the part 0 doesn't know of it
@@ -314,12 +314,12 @@ module _ (d : Digits) (owner volume line : ℕ) where
 
   pub first-again : (c : Digits) → unread_each c d wire_attributes over_first ≡ over_first
   first-again c =
-      first_out owner volume line 0 (pos 0) (pos 0) (pos 3) c d [] [] [] none _ _ _ _
+      first_out owner volume line 0 (pos 0) (pos 0) (pos 3) c d [] [] [] None _ _ _ _
       ∙ (λ i. first_of owner volume line 0 (pos 0) (pos 0) (pos 3) (no_more {A = List (List Num)} c (digits 0 2) [] i) (no_more {A = List (List Num)} c (digits 0 3) [] i) (no_more {A = List (List Num)} c (digits 0 4) [] i)
-      (no_more {A = Option Value} c (digits 0 6) none i) (again c (digits 0 2) i) (again c (digits 0 3) i) (again c (digits 0 4) i) (again c (digits 0 6) i))
+      (no_more {A = Option Value} c (digits 0 6) None i) (again c (digits 0 2) i) (again c (digits 0 3) i) (again c (digits 0 4) i) (again c (digits 0 6) i))
 
   pub second-again : (c : Digits) → unread_each c d more_attributes over_second ≡ over_second
   second-again c =
-      second-out owner volume line 0 (pos 0) (pos 0) (pos 3) c d [] none none none _ _ _ _
-      ∙ (λ i. second_of owner volume line 0 (pos 0) (pos 0) (pos 3) (no_more {A = List Slots} c (digits 0 5) [] i) (no_more {A = Option Value} c (digits 0 7) none i) (no_more {A = Option Value} c (digits 0 8) none i)
-      (no_more {A = Option Value} c (digits 1 0) none i) (again c (digits 0 5) i) (again c (digits 0 7) i) (again c (digits 0 8) i) (again c (digits 1 0) i))
+      second-out owner volume line 0 (pos 0) (pos 0) (pos 3) c d [] None None None _ _ _ _
+      ∙ (λ i. second_of owner volume line 0 (pos 0) (pos 0) (pos 3) (no_more {A = List Slots} c (digits 0 5) [] i) (no_more {A = Option Value} c (digits 0 7) None i) (no_more {A = Option Value} c (digits 0 8) None i)
+      (no_more {A = Option Value} c (digits 1 0) None i) (again c (digits 0 5) i) (again c (digits 0 7) i) (again c (digits 0 8) i) (again c (digits 1 0) i))

@@ -1,8 +1,8 @@
 -- A line in a wire at two classes: both read it, and what the lower doesn't know of it it skips; or the lower skips the wire whole.
+use Rattle.std.specs.Prelude.{Some, None}
 use Prim.Native.Nat.{ℕ, zero, suc, ◌+◌, ◌-◌, ◌≤◌}
 use mathlib.Core.Bool.{Bool, true, false, cond, ◌&&◌, ◌||◌, not}
 use mathlib.Core.List.{List, [], ◌∷◌, ◌++◌}
-use mathlib.Core.Option.{none, some}
 use mathlib.Core.Path.{◌≡◌, refl, sym, ◌∙◌, ap, subst}
 use native.Mathlib.Omega.{arith}
 use lib.Dec.{eqb, leb}
@@ -68,21 +68,21 @@ module _ (c d : Digits) {j : ℕ} {r : Rule} (at : Row wire_table j r) (w : Wire
       more us = us ++ nums_of v ∷ []
 
       go : (b : Bool) → is_group_row j ≡ b
-          → lower_read c d (cond b (with_groups (set w.groups (j - first_group_row) (more (group_at w j))) w) (with_once (set w.own j (some v)) w))
-          ≡ cond b (with_groups (set (lower_read c d w).groups (j - first_group_row) (more (group_at (lower_read c d w) j))) (lower_read c d w)) (with_once (set (lower_read c d w).own j (some v)) (lower_read c d w))
+          → lower_read c d (cond b (with_groups (set w.groups (j - first_group_row) (more (group_at w j))) w) (with_once (set w.own j (Some v)) w))
+          ≡ cond b (with_groups (set (lower_read c d w).groups (j - first_group_row) (more (group_at (lower_read c d w) j))) (lower_read c d w)) (with_once (set (lower_read c d w).own j (Some v)) (lower_read c d w))
       go true g =
           ap (λ gs. with_groups gs (lower_read c d w))
           (sym (mask_in [] c d (group-row at g) h w.groups (more (group_at w j))) ∙ ap (λ us. set (lower_read c d w).groups (j - first_group_row) (more us)) (sym (group-same h g)))
-      go false g = ap (λ o. with_once o (lower_read c d w)) (sym (mask_in none c d at h w.own (some v)))
+      go false g = ap (λ o. with_once o (lower_read c d w)) (sym (mask_in None c d at h w.own (Some v)))
 
   -- one that it leaves out
   attribute-out : hides c d r.least ≡ true → (v : Value) → lower_read c d (with_attribute w j v) ≡ past_elements (lower_read c d w)
   attribute-out h v = go (is_group_row j) refl
     where
       go : (b : Bool) → is_group_row j ≡ b
-          → lower_read c d (cond b (with_groups (set w.groups (j - first_group_row) (group_at w j ++ nums_of v ∷ [])) w) (with_once (set w.own j (some v)) w)) ≡ past_elements (lower_read c d w)
+          → lower_read c d (cond b (with_groups (set w.groups (j - first_group_row) (group_at w j ++ nums_of v ∷ [])) w) (with_once (set w.own j (Some v)) w)) ≡ past_elements (lower_read c d w)
       go true g = ap (λ gs. with_groups gs (lower_read c d w)) (mask-out [] c d (group-row at g) h w.groups (group_at w j ++ nums_of v ∷ []))
-      go false g = ap (λ o. with_once o (lower_read c d w)) (mask-out none c d at h w.own (some v))
+      go false g = ap (λ o. with_once o (lower_read c d w)) (mask-out None c d at h w.own (Some v))
 
 -- a row that the class knows may take more where it may at the other class
 full-same : (c d : Digits) (j : ℕ) {r : Rule} → Row wire_table j r → hides c d r.least ≡ false → (w : Wire) → get_or (wire_full (lower_read c d w)) j false ≡ get_or (wire_full w) j false
@@ -92,12 +92,12 @@ full-same c d (suc (suc zero)) at h w = ap (λ us. leb most_direcs (length us)) 
 full-same c d (suc (suc (suc zero))) at h w = refl
 full-same c d (suc (suc (suc (suc zero)))) at h w = refl
 full-same c d (suc (suc (suc (suc (suc i))))) at h w =
-    marked (lower_read c d w).own ∙ ap is_some (mask-slot none c d at h w.own) ∙ sym (marked w.own)
+    marked (lower_read c d w).own ∙ ap is_some (mask-slot None c d at h w.own) ∙ sym (marked w.own)
   where
-    marked : (o : Slots) → get_or (drop wire_text_row (rows_there o)) i false ≡ is_some (get_or o (suc (suc (suc (suc (suc i))))) none)
+    marked : (o : Slots) → get_or (drop wire_text_row (rows_there o)) i false ≡ is_some (get_or o (suc (suc (suc (suc (suc i))))) None)
     marked o =
         let q : wire_text_row + i ≡ suc (suc (suc (suc (suc i)))) = omega arith in
-        get_or-drop wire_text_row (rows_there o) i false ∙ ap (λ (m : ℕ). get_or (rows_there o) m false) q ∙ get_or-map is_some o (suc (suc (suc (suc (suc i))))) none
+        get_or-drop wire_text_row (rows_there o) i false ∙ ap (λ (m : ℕ). get_or (rows_there o) m false) q ∙ get_or-map is_some o (suc (suc (suc (suc (suc i))))) None
 
 -- a key that is not known there is refused
 refused-key : {P : Type 0} (st : State) (en : ℕ → Value → Got State) (op : ℕ → ℕ → Value → Got State) (cl : Got State) (x : Rest) (s' : State)
@@ -112,7 +112,7 @@ refused-key st en op cl x s' e = go (has_form (shape_of x)) e
 abbrev text_does : Set → ℕ → List Figure → ℕ → Wire → ℕ → Act → Got State
 text_does s k fs n w p a =
     by_act (placing s k fs n (wire_block w) p)
-    (λ j v. got (placing s k fs n (wire_block (with_texts w.texts (set w.writing j (some v)) w)) p))
+    (λ j v. got (placing s k fs n (wire_block (with_texts w.texts (set w.writing j (Some v)) w)) p))
     (λ i j v. bad 5)
     (λ _. got (placing s k fs n (wire_block (with_texts (w.texts ++ w.writing ∷ []) [] w)) 0))
     a
@@ -322,7 +322,7 @@ module _ (low high : Class) (le : NotAbove low.wires high.wires) (took : ℕ) (l
 
           by : (a : Act) → RowAct (digits 0 0) j r x a → text_does s k fs n w (suc p) a ≡ got s' → on_skipping below k fs' n b 1 (keyed key x) ≡ got (lower took low s')
           by _ (entered v h z) e =
-              rw (quiet-passes key r x at.1 (row-all quiet at.0 (quiet-texts 4 12)) z) (ap got (sym (is.more p w.texts (set w.writing j (some v)))) ∙ along e)
+              rw (quiet-passes key r x at.1 (row-all quiet at.0 (quiet-texts 4 12)) z) (ap got (sym (is.more p w.texts (set w.writing j (Some v)))) ∙ along e)
           by _ (opened v h z f) e = absurd (flat-opens r.holds r.may (shape_for r x) (row-all (λ r. flat_kind r.holds) at.0 (flat-texts 4 12)) z f)
           by _ (refused i) e = never e
 

@@ -1,8 +1,8 @@
 -- Laws of numbers: what is written of a number that was read reads as that number again, is no longer, and has only the bytes of numbers.
+use Rattle.std.specs.Prelude.{Option, Some}
 use Prim.Native.Nat.{ℕ, zero, suc, ◌+◌, ◌*◌, ◌-◌, ◌/◌, ◌%◌, ◌^◌, ◌<◌, ◌≤◌}
 use mathlib.Core.Bool.{Bool, true, false, cond, ◌&&◌, ◌||◌, not, true≢false}
 use mathlib.Core.List.{List, [], ◌∷◌, ◌++◌, append-nil}
-use mathlib.Core.Option.{Option, some}
 use mathlib.Core.Path.{◌≡◌, refl, sym, ◌∙◌, ap, subst}
 use native.Mathlib.Nat.{lt_of_lt_of_le, le_trans, le_of_eq, mul-le-mul_right, zero-add, add-suc, suc-add, not-suc-le-zero}
 use native.Mathlib.Omega.{arith}
@@ -179,12 +179,12 @@ some-full (b ∷ s) h = refl
 
 -- where a was read from s, t is written
 pub record Again {A : Type 0} (read : List ℕ → Option A) (s t : List ℕ) (a : A) : Type 0 where
-  pub back : read t ≡ some a
+  pub back : read t ≡ Some a
   pub plain : all numeric t ≡ true
   pub full : is_nil t ≡ false
   pub short : length t ≤ length s
 
-pub count-back : (w n : ℕ) (s : List ℕ) → read_count w s ≡ some n → Again (read_count w) s (show_count w n) n
+pub count-back : (w n : ℕ) (s : List ℕ) → read_count w s ≡ Some n → Again (read_count w) s (show_count w n) n
 count-back w n s e =
     let (r, q) = cond-some (digit_run 1 w s) (value s) n e in
     let (d, l, h) = run-parts 1 w s r in
@@ -198,7 +198,7 @@ count-back w n s e =
     })
 
 -- fixed digits are written as they were read
-pub fixed_same : (w n : ℕ) (s : List ℕ) → read_fixed w s ≡ some n → fixed w n ≡ s
+pub fixed_same : (w n : ℕ) (s : List ℕ) → read_fixed w s ≡ Some n → fixed w n ≡ s
 fixed_same w n s e =
     let (r, q) = cond-some (digit_run w w s) (value s) n e in
     let (d, l, h) = run-parts w w s r in
@@ -256,10 +256,10 @@ end-full s h n = go (trim_end s) (pad-end 4 s h)
     go (c ∷ t) e = omega arith
 
 -- ── decimals without their sign ──
-size-whole : (a : List ℕ) → digit_run 1 7 a ≡ true → read_size a ≡ some (value a * 10000)
+size-whole : (a : List ℕ) → digit_run 1 7 a ≡ true → read_size a ≡ Some (value a * 10000)
 size-whole a h = rw (cut-none 46 a (all-free is_digit 46 refl a (run-parts 1 7 a h).0), h)
 
-size-parts : (a b : List ℕ) → digit_run 1 7 a ≡ true → digit_run 1 4 b ≡ true → read_size (a ++ 46 ∷ b) ≡ some (value a * 10000 + value (pad_end 4 b))
+size-parts : (a b : List ℕ) → digit_run 1 7 a ≡ true → digit_run 1 4 b ≡ true → read_size (a ++ 46 ∷ b) ≡ Some (value a * 10000 + value (pad_end 4 b))
 size-parts a b h k = rw (cut_at 46 a b (all-free is_digit 46 refl a (run-parts 1 7 a h).0), h, k)
 
 -- the whole part, without its needless zeros
@@ -268,7 +268,7 @@ size-one s a m r l q =
     let (d, lo, hi) = run-parts 1 7 a r in
     let t = length-trim a lo in
     record {
-      back = size-whole (trim a) (run-trim 7 a r) ∙ ap some (rw (value-trim a) q);
+      back = size-whole (trim a) (run-trim 7 a r) ∙ ap Some (rw (value-trim a) q);
       plain = digits-numeric (trim a) (digits-trim a d);
       full = some-full (trim a) t.0;
       short = omega arith;
@@ -287,19 +287,19 @@ size-two s a b m r k n c q =
     let y = ap length c ∙ length-append a (46 ∷ b) in
     record {
       back =
-          size-parts (trim a) (trim_end b) (run-trim 7 a r) (run_ok 1 4 (trim_end b) (digits-end b f) g (omega arith)) ∙ ap some (rw (value-trim a, pad-end 4 b hi') q);
+          size-parts (trim a) (trim_end b) (run-trim 7 a r) (run_ok 1 4 (trim_end b) (digits-end b f) g (omega arith)) ∙ ap Some (rw (value-trim a, pad-end 4 b hi') q);
       plain = rw (all_append numeric (trim a) (46 ∷ trim_end b), digits-numeric (trim a) (digits-trim a d), digits-numeric (trim_end b) (digits-end b f));
       full = some-full (trim a ++ 46 ∷ trim_end b) (omega arith);
       short = omega arith;
     }
 
-size_back : (s : List ℕ) (m : ℕ) → read_size s ≡ some m → Again read_size s (show_size m) m
+size_back : (s : List ℕ) (m : ℕ) → read_size s ≡ Some m → Again read_size s (show_size m) m
 size_back s m e = go (cut 46 s) refl e
   where
     written : (a f : List ℕ) → digit_run 1 7 a ≡ true → m / 10000 ≡ value a → show_fraction (m % 10000) ≡ f → Again read_size s (trim a ++ f) m → Again read_size s (show_size m) m
     written a f r q p w = subst (λ l. Again read_size s l m) (sym (ap (λ l. l ++ show_fraction (m % 10000)) (ap (show_count 7) q ∙ show-count 7 a r) ∙ ap (λ l. trim a ++ l) p)) w
 
-    go : (c : Cut) → cut 46 s ≡ c → read_parts s c ≡ some m → Again read_size s (show_size m) m
+    go : (c : Cut) → cut 46 s ≡ c → read_parts s c ≡ Some m → Again read_size s (show_size m) m
     go whole c e =
         let (r, q) = cond-some (digit_run 1 7 s) (value s * 10000) m e in
         let z : m % 10000 ≡ 0 = omega arith in
@@ -326,18 +326,18 @@ size_back s m e = go (cut 46 s) refl e
 
 -- ── decimals ──
 -- a decimal without a sign does not begin with `-`
-no_sign : (s : List ℕ) (m : ℕ) → read_size (45 ∷ s) ≡ some m → ⊥
+no_sign : (s : List ℕ) (m : ℕ) → read_size (45 ∷ s) ≡ Some m → ⊥
 no_sign s m e = go (cut 46 s) e
   where
-    go : (c : Cut) → read_parts (45 ∷ s) (onto 45 c) ≡ some m → ⊥
+    go : (c : Cut) → read_parts (45 ∷ s) (onto 45 c) ≡ Some m → ⊥
     go whole e = none-some e
     go (parts a b) e = none-some e
 
-size-decimal : (s : List ℕ) (m : ℕ) → read_size s ≡ some m → read_decimal s ≡ some (pos m)
+size-decimal : (s : List ℕ) (m : ℕ) → read_size s ≡ Some m → read_decimal s ≡ Some (pos m)
 size-decimal [] m e = none-some e
 size-decimal (b ∷ s) m e = rw (ne_eqb b 45 (λ q. no_sign s m (rw q at e)), e)
 
-pub decimal-back : (s : List ℕ) (z : ℤ) → read_decimal s ≡ some z → Again read_decimal s (show_decimal z) z
+pub decimal-back : (s : List ℕ) (z : ℤ) → read_decimal s ≡ Some z → Again read_decimal s (show_decimal z) z
 decimal-back [] z e = none-some e
 decimal-back (b ∷ s) z e = go (eqb b 45) e
   where
@@ -348,7 +348,7 @@ decimal-back (b ∷ s) z e = go (eqb b 45) e
     signed zero w = record { back = size-decimal (show_size 0) 0 w.back; plain = w.plain; full = w.full; short = omega (arith, w.short) }
     signed (suc m) w = record { back = ap (map_o minus) w.back; plain = w.plain; full = refl; short = omega (arith, w.short) }
 
-    go : (t : Bool) → cond t (map_o minus (read_size s)) (map_o pos (read_size (b ∷ s))) ≡ some z → Again read_decimal (b ∷ s) (show_decimal z) z
+    go : (t : Bool) → cond t (map_o minus (read_size s)) (map_o pos (read_size (b ∷ s))) ≡ Some z → Again read_decimal (b ∷ s) (show_decimal z) z
     go true e =
         let (m, p, q) = map-some minus (read_size s) z e in
         rw (← q) (signed m (size_back s m p))

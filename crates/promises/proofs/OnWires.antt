@@ -1,8 +1,8 @@
 -- What holds of every state that a line in a wire's block may lead to. Said once, over any property of states.
+use Rattle.std.specs.Prelude.{Some}
 use Prim.Native.Nat.{ℕ, zero, suc}
 use mathlib.Core.Bool.{Bool, true, false, ◌&&◌}
 use mathlib.Core.List.{List, [], ◌∷◌, ◌++◌}
-use mathlib.Core.Option.{some}
 use mathlib.Core.Path.{◌≡◌, refl, ◌∙◌, ap, subst}
 use lib.ListN.{get_or, set}
 use Rattle.rules.specs.declared.Digits.{Digits}
@@ -67,7 +67,7 @@ pub record ByLine (P : State → Type 0) (e : Env) (l : Line) (s : Set) (h : ℕ
   -- a line that enters none of what P may look at
   pub other : (gs : List (List (List Num))) (ts : List Slots) (o : Slots) (b : Bool) (p : ℕ) → P (placing s h fs n (wire_block (beside w gs ts o b)) p)
   pub element : (row : ℕ) (v : Value) → is_element_row row ≡ true → act (known_of s) wire_table (wires_of s) (wire_full w) f ≡ entry row v → On P (on_element e l s h fs n w row (nums_of v))
-  pub once : (j : ℕ) (v : Value) → (j ≡ wire_serial_row → SerialRead e v) → new_number s fs j v ≡ true → P (placing s h fs n (wire_block (with_once (set w.own j (some v)) w)) 0)
+  pub once : (j : ℕ) (v : Value) → (j ≡ wire_serial_row → SerialRead e v) → new_number s fs j v ≡ true → P (placing s h fs n (wire_block (with_once (set w.own j (Some v)) w)) 0)
   pub shut : P (figures s (in_layer h) (fs ++ wired n w ∷ []))
   pub skipped : P (skipping s h fs n (wire_block (past_elements w)) 1)
 
@@ -135,7 +135,7 @@ module _ (P : State → Type 0) (e : Env) (l : Line) (s : Set) (h : ℕ) (fs : L
     by-line (suc p) =
         on-by_act P _ _ _ _ (act (known_of s) wire_text_table (digits 0 0) (rows_there w.writing) form)
         (d.other w.groups w.texts w.writing w.past (suc p))
-        (λ j v. d.other w.groups w.texts (set w.writing j (some v)) true (suc p))
+        (λ j v. d.other w.groups w.texts (set w.writing j (Some v)) true (suc p))
         (λ i j v b. tt)
         (d.other w.groups (w.texts ++ w.writing ∷ []) [] true 0)
 
@@ -143,7 +143,7 @@ module _ (P : State → Type 0) (e : Env) (l : Line) (s : Set) (h : ℕ) (fs : L
 pub record InWire (P : State → Type 0) (e : Env) (l : Line) (s : Set) (h : ℕ) (fs : List Figure) (n : ℕ) (w : Wire) : Type 0 where
   pub other : (gs : List (List (List Num))) (ts : List Slots) (o : Slots) (b : Bool) (p : ℕ) → P (placing s h fs n (wire_block (beside w gs ts o b)) p)
   pub element : (row : ℕ) (v : List Num) → is_element_row row ≡ true → On P (on_element e l s h fs n w row v)
-  pub once : (j : ℕ) (v : Value) → (j ≡ wire_serial_row → SerialRead e v) → new_number s fs j v ≡ true → P (placing s h fs n (wire_block (with_once (set w.own j (some v)) w)) 0)
+  pub once : (j : ℕ) (v : Value) → (j ≡ wire_serial_row → SerialRead e v) → new_number s fs j v ≡ true → P (placing s h fs n (wire_block (with_once (set w.own j (Some v)) w)) 0)
   pub shut : P (figures s (in_layer h) (fs ++ wired n w ∷ []))
   pub skipped : P (skipping s h fs n (wire_block (past_elements w)) 1)
 

@@ -1,11 +1,10 @@
 -- Single calls of the reader and the rewriter, from their contracts and the theorems of the demands.
+use Rattle.std.specs.Prelude.{Result, Ok}
 use Prim.Native.Nat.{ℕ, ◌*◌, ◌≤◌}
 use mathlib.Core.List.{List}
 use mathlib.Core.Path.{◌≡◌, sym, ◌∙◌, ap, subst}
 use lib.IntN.{ℤ}
 use lib.ListN.{length}
-use Rattle.rules.specs.declared.Answer.{Answer}
-use Rattle.rules.specs.declared.Answer.TheVariants.{Accepted}
 use Rattle.rules.specs.RecordTable.{width}
 use Rattle.rules.specs.Answers.{read_answer, read_table, written}
 use Rattle.promises.specs.DemandOne.{by_reader, by_rewriter, Answered, Filled, Written}
@@ -14,14 +13,15 @@ use Rattle.promises.specs.ReaderCalls.{Call}
 use Rattle.promises.specs.SingleCalls.{CallAccepts, ReadCalls, RewriteCalls}
 use Rattle.promises.proofs.Answered.{demand-one}
 use Rattle.promises.proofs.Exactly.{exactly_when}
+use Rattle.rules.specs.declared.Refusal.{Refusal}
 
 -- a spool that keeps the rules with n records is accepted where they fit
-pub kept-accepts : (class wire len : ℕ) (spool : List ℕ) (n : ℕ) → Keeps class wire spool n → n * width ≤ len → read_answer class wire len spool ≡ Accepted n
+pub kept-accepts : (class wire len : ℕ) (spool : List ℕ) (n : ℕ) → Keeps class wire spool n → n * width ≤ len → read_answer class wire len spool ≡ Ok n
 kept-accepts class wire len spool n k h =
     let fits : length (records_at class wire k.set) * width ≤ len = subst (λ (i : ℕ). i * width ≤ len) (sym k.count) h in
-    ((exactly_when.reader class wire spool).when_kept k.set k.rules len).accepts fits ∙ ap Accepted k.count
+    ((exactly_when.reader class wire spool).when_kept k.set k.rules len).accepts fits ∙ ap Ok k.count
 
-call-accepts : (c : Call) (n : ℕ) → c.answer ≡ Accepted n → CallAccepts c n
+call-accepts : (c : Call) (n : ℕ) → c.answer ≡ Ok n → CallAccepts c n
 call-accepts c n e =
     let len = length c.before in
     let is = sym c.answers ∙ e in
@@ -41,7 +41,7 @@ read_calls c =
     let w = demand-one.reader c.class c.wire len c.spool in
     let x = exactly_when.reader c.class c.wire c.spool in
     record {
-      answer = subst (λ (a : Answer). Answered by_reader a) (sym c.answers) w.answer;
+      answer = subst (λ (a : Result ℕ Refusal). Answered by_reader a) (sym c.answers) w.answer;
       size = ap length c.fills ∙ w.size;
       when_refused = λ r e. c.fills ∙ w.when_refused r (sym c.answers ∙ e);
       when_accepted = call-accepts c;
@@ -55,7 +55,7 @@ rewrite_calls c =
     let w = demand-one.rewriter len c.spool in
     let x = exactly_when.rewriter c.spool len in
     record {
-      answer = subst (λ (a : Answer). Answered by_rewriter a) (sym c.answers) w.answer;
+      answer = subst (λ (a : Result ℕ Refusal). Answered by_rewriter a) (sym c.answers) w.answer;
       size = ap length c.fills ∙ w.size;
       when_refused = λ r e. c.fills ∙ w.when_refused r (sym c.answers ∙ e);
       when_accepted = λ n e. subst (λ (o : List ℕ). Written len n (written c.spool) o) (sym c.fills) (w.when_accepted n (sym c.answers ∙ e));

@@ -1,8 +1,8 @@
 -- The line that a figure came of, by the spool's volumes and their lines: its number, its key, its content, and what is read of that.
+use Rattle.std.specs.Prelude.{Some}
 use Prim.Native.Nat.{ℕ, suc, ◌+◌}
 use mathlib.Core.Bool.{Bool, true, false}
 use mathlib.Core.List.{List, [], ◌∷◌, ◌++◌}
-use mathlib.Core.Option.{some}
 use mathlib.Core.Path.{◌≡◌, refl, sym, ◌∙◌, ap, subst}
 use native.Mathlib.Omega.{arith}
 use lib.Dec.{eqb}
@@ -64,7 +64,7 @@ pub record Told (vs : List Volume) (k n : ℕ) (text : List ℕ) : Type 0 where
   pub volume : Volume
   pub there : Item vs k volume
   pub lines : Text
-  pub cut : lines_of volume.body ≡ some lines
+  pub cut : lines_of volume.body ≡ Some lines
   pub line : List ℕ
   pub within : Item lines n line
   pub stands : unindent line ≡ text
@@ -88,7 +88,7 @@ within_all s m a i n e = let z : m ≡ n = omega (arith, e) in subst (λ (k : �
 within-rest : {A : Type 0} (b : A) (s : List A) (d : ℕ) (whole : List A) → Within (b ∷ s) d whole → Within s (suc d) whole
 within-rest b s d whole h m a i n e = h (suc m) a (later i) n (omega (arith, e))
 
-module _ (whole : List Volume) (k : ℕ) (v : Volume) (there : Item whole k v) (lines : Text) (cut : lines_of v.body ≡ some lines) where
+module _ (whole : List Volume) (k : ℕ) (v : Volume) (there : Item whole k v) (lines : Text) (cut : lines_of v.body ≡ Some lines) where
   line_has : (n : ℕ) (l : List ℕ) → Item lines n l → (f : Form) → Says (unindent l) f → Has whole k n f
   line_has n l i ignored s = tt
   line_has n l i (wrong m) s = tt
@@ -199,7 +199,7 @@ pub record FromLine (spool : List ℕ) (r : List ℤ) (q : Rule) (v : List Num) 
   pub reads : read_kind known q.holds at content ≡ got value
   pub numbers : nums_of value ≡ v
 
-pub from-line : (spool : List ℕ) (vs : List Volume) → volumes_of spool ≡ some vs → (t : List Rule) (k n j : ℕ) (v : List Num) → only_numbers (rule_at t j) ≡ true → Came (Has vs) k t n j v
+pub from-line : (spool : List ℕ) (vs : List Volume) → volumes_of spool ≡ Some vs → (t : List Rule) (k n j : ℕ) (v : List Num) → only_numbers (rule_at t j) ≡ true → Came (Has vs) k t n j v
     → (r : List ℤ) → number_at r 2 ≡ pos k → number_at r 3 ≡ pos n → FromLine spool r (rule_at t j) v
 from-line spool vs is t k n j v only c r p q =
     let w = entry-line c.known t c.range c.full j c.value only c.form c.entered in

@@ -1,8 +1,8 @@
 -- The records of an accepted set show the own serial numbers of its figures, and no two the same.
+use Rattle.std.specs.Prelude.{Option, Some, None}
 use Prim.Native.Nat.{ℕ}
 use mathlib.Core.Bool.{Bool, false}
 use mathlib.Core.List.{List, [], ◌∷◌, ◌++◌, map}
-use mathlib.Core.Option.{Option, none, some}
 use mathlib.Core.Path.{◌≡◌, refl, sym, ◌∙◌, ap, subst}
 use lib.Dec.{eqb}
 use lib.IntN.{ℤ}
@@ -32,26 +32,26 @@ use Rattle.promises.proofs.VolumeLists.{volumes_list}
 
 -- ── the own number of a figure: as it was compared, and the first of its row ──
 symbol-first : (known : Bool) (o : Option Value) → KnownSlot known IsSerial o → own_serial (serials_of (slot_value o)) ≡ first_of o
-symbol-first known none g = refl
-symbol-first known (some empty) g = refl
-symbol-first known (some (nums v)) g = absurd g.1
-symbol-first known (some (chars at c)) g = absurd g.1
-symbol-first known (some (linked n ps)) g = refl
+symbol-first known None g = refl
+symbol-first known (Some empty) g = refl
+symbol-first known (Some (nums v)) g = absurd g.1
+symbol-first known (Some (chars at c)) g = absurd g.1
+symbol-first known (Some (linked n ps)) g = refl
 
 wire-first : (known : Bool) (o : Option Value) → KnownSlot known IsNums o → own_number o ≡ first_of o
-wire-first known none g = refl
-wire-first known (some empty) g = absurd g.1
-wire-first known (some (nums v)) g = refl
-wire-first known (some (chars at c)) g = absurd g.1
-wire-first known (some (linked n ps)) g = absurd g.1
+wire-first known None g = refl
+wire-first known (Some empty) g = absurd g.1
+wire-first known (Some (nums v)) g = refl
+wire-first known (Some (chars at c)) g = absurd g.1
+wire-first known (Some (linked n ps)) g = absurd g.1
 
 figure-first : (c : Class) (wires : ℕ) (f : Figure) → SoundFigure c wires f → figure_serial f ≡ first_of (serial_row f)
 unfolding placed_table
 figure-first c wires (plain n j v) i = refl
 figure-first c wires (chain n ps) i = refl
 figure-first c wires (lettering n s) i = refl
-figure-first c wires (placed n h) i = symbol-first (knows_serials c.symbols) (get_or (part_of h 0) 5 none) i
-figure-first c wires (wired n w) i = wire-first (knows_serials c.wires) (get_or w.own 9 none) i.serial
+figure-first c wires (placed n h) i = symbol-first (knows_serials c.symbols) (get_or (part_of h 0) 5 None) i
+figure-first c wires (wired n w) i = wire-first (knows_serials c.wires) (get_or w.own 9 None) i.serial
 figure-first c wires (passed n) i = refl
 
 -- what the walk over the records takes of a figure

@@ -1,8 +1,8 @@
 -- Every partner of a symbol or wire of an accepted set is an own number that a record shows.
+use Rattle.std.specs.Prelude.{Option, Some, None}
 use Prim.Native.Nat.{ℕ, ◌%◌}
 use mathlib.Core.Bool.{Bool, true, false, ◌&&◌, ◌||◌}
 use mathlib.Core.List.{List, [], ◌∷◌, ◌++◌, map}
-use mathlib.Core.Option.{Option, none, some}
 use mathlib.Core.Path.{◌≡◌, refl, sym, ◌∙◌, ap, subst}
 use native.Mathlib.Omega.{arith}
 use lib.Dec.{eqb}
@@ -33,26 +33,26 @@ use Rattle.promises.proofs.VolumeLists.{volumes_list}
 
 -- ── the partners of a figure: as they were tested, and those of its row ──
 symbol-partners : (known : Bool) (o : Option Value) → KnownSlot known IsSerial o → drop 1 (serials_of (slot_value o)) ≡ partners_of o
-symbol-partners known none g = refl
-symbol-partners known (some empty) g = refl
-symbol-partners known (some (nums v)) g = absurd g.1
-symbol-partners known (some (chars at c)) g = absurd g.1
-symbol-partners known (some (linked n ps)) g = refl
+symbol-partners known None g = refl
+symbol-partners known (Some empty) g = refl
+symbol-partners known (Some (nums v)) g = absurd g.1
+symbol-partners known (Some (chars at c)) g = absurd g.1
+symbol-partners known (Some (linked n ps)) g = refl
 
 wire-partners : (known : Bool) (o : Option Value) → KnownSlot known IsNums o → S.wire_partners (slot_value o) ≡ partners_of o
-wire-partners known none g = refl
-wire-partners known (some empty) g = absurd g.1
-wire-partners known (some (nums v)) g = refl
-wire-partners known (some (chars at c)) g = absurd g.1
-wire-partners known (some (linked n ps)) g = absurd g.1
+wire-partners known None g = refl
+wire-partners known (Some empty) g = absurd g.1
+wire-partners known (Some (nums v)) g = refl
+wire-partners known (Some (chars at c)) g = absurd g.1
+wire-partners known (Some (linked n ps)) g = absurd g.1
 
 figure-partners : (c : Class) (wires : ℕ) (f : Figure) → SoundFigure c wires f → figure_partners f ≡ partners_of (serial_row f)
 unfolding placed_table
 figure-partners c wires (plain n j v) i = refl
 figure-partners c wires (chain n ps) i = refl
 figure-partners c wires (lettering n s) i = refl
-figure-partners c wires (placed n h) i = symbol-partners (knows_serials c.symbols) (get_or (part_of h 0) 5 none) i
-figure-partners c wires (wired n w) i = wire-partners (knows_serials c.wires) (get_or w.own 9 none) i.serial
+figure-partners c wires (placed n h) i = symbol-partners (knows_serials c.symbols) (get_or (part_of h 0) 5 None) i
+figure-partners c wires (wired n w) i = wire-partners (knows_serials c.wires) (get_or w.own 9 None) i.serial
 figure-partners c wires (passed n) i = refl
 
 of-ends : (f : Figure) → of_figure ends_of ends-quiet no_ends wire_ends f ≡ wire_partners f
@@ -115,13 +115,13 @@ wires-among n (f ∷ fs) h =
 has-known : (n : ℕ) → has_serials n ≡ true → knows_serials (digits_of n) ≡ true
 has-known n e = and_true _ _ e (le-leb 0 (n % 10) (omega arith))
 
-class-digits : (class wire : ℕ) (c : Class) → class_of class wire ≡ some c → (c.symbols ≡ digits_of class) × (c.wires ≡ digits_of wire)
+class-digits : (class wire : ℕ) (c : Class) → class_of class wire ≡ Some c → (c.symbols ≡ digits_of class) × (c.wires ≡ digits_of wire)
 unfolding class_of
 class-digits class wire c e =
     let (t, is) = cond-some (is_symbol_part class && is_wire_part wire) _ c e in
     (ap (λ (d : Class). d.symbols) (sym is), ap (λ (d : Class). d.wires) (sym is))
 
-tests : (class wire : ℕ) (c : Class) (s : Set) → class_of class wire ≡ some c → tested class wire s ≡ true → tests_partners c s ≡ true
+tests : (class wire : ℕ) (c : Class) (s : Set) → class_of class wire ≡ Some c → tested class wire s ≡ true → tests_partners c s ≡ true
 tests class wire c s p t =
     let classes = and_left (has_serials class && has_serials wire) _ t in
     let ranges = and_right (has_serials class && has_serials wire) (has_serials (range_in s).0 && has_serials (range_in s).1) t in

@@ -1,8 +1,8 @@
 -- The reading does not look at places.
+use Rattle.std.specs.Prelude.{Option, Some, None}
 use Prim.Native.Nat.{ℕ, zero, suc, ◌-◌}
 use mathlib.Core.Bool.{Bool, false, cond, true, ◌&&◌}
 use mathlib.Core.List.{List, [], ◌∷◌, ◌++◌, map}
-use mathlib.Core.Option.{none, some, Option}
 use mathlib.Core.Path.{◌≡◌, refl, sym, ◌∙◌, ap, ap₂}
 use native.Mathlib.Omega.{arith}
 use lib.Dec.{eqb}
@@ -61,8 +61,8 @@ on_file-bare l s n h p f =
     (λ i j v. ap (λ o. got (file (bare_set s) 0 o i)) (enter-bare h p j v))
     (shut_part-bare p (close_file l s n h) (close_file (bare_line l) (bare_set s) 0 (bare_held h)) _ _ (close_file-bare l s n h) (λ q. refl)))
 
-own_bare : (s : Slots) (j : ℕ) (v : Value) → bare_slots (set s j (some v)) ≡ set (bare_slots s) j (some (bare_value v))
-own_bare s j v = map-set (map_o bare_value) s j (some v)
+own_bare : (s : Slots) (j : ℕ) (v : Value) → bare_slots (set s j (Some v)) ≡ set (bare_slots s) j (Some (bare_value v))
+own_bare s j v = map-set (map_o bare_value) s j (Some v)
 
 on_drawing-bare : (s : Set) (d : Drawing) (f : Form) → map_g bare_state (on_drawing s d f) ≡ on_drawing (bare_set s) (bare_drawing d) (bare_form f)
 on_drawing-bare s d f =
@@ -95,14 +95,14 @@ new_name-bare s y = rw (name-bare y, names-bare s.symbols)
 open_symbol-bare : (s : Set) (y : Symbol) (i : ℕ) → map_g bare_state (open_symbol s y i) ≡ open_symbol (bare_set s) (bare_symbol y) i
 open_symbol-bare s y zero = refl
 open_symbol-bare s y (suc zero) = refl
-open_symbol-bare s y (suc (suc i)) = rw (at_bare y.own 1, none_bare (get_or y.own 1 none))
+open_symbol-bare s y (suc (suc i)) = rw (at_bare y.own 1, none_bare (get_or y.own 1 None))
 
 on_symbol-bare : (s : Set) (y : Symbol) (f : Form) → map_g bare_state (on_symbol s y f) ≡ on_symbol (bare_set s) (bare_symbol y) (bare_form f)
 on_symbol-bare s y f =
     rw (known-bare s, define-bare s, marks-bare y.own)
     (by-line (known_of s) symbol_table (digits_of (define_range s)) (rows_there y.own) f (symbol s y) _ _ _ _ _ _
-    (λ j v. rw (← (own_bare y.own j v), new_name-bare s (symbol_own (set y.own j (some v)) y)) (simp through))
-    (λ i j v. rw (← (own_bare y.own j v)) (open_symbol-bare s (symbol_own (set y.own j (some v)) y) i)) (simp map-append))
+    (λ j v. rw (← (own_bare y.own j v), new_name-bare s (symbol_own (set y.own j (Some v)) y)) (simp through))
+    (λ i j v. rw (← (own_bare y.own j v)) (open_symbol-bare s (symbol_own (set y.own j (Some v)) y) i)) (simp map-append))
 
 on_hide-bare : (e : Env) (l : Line) (s : Set) (y : Symbol) (ps : List Point) (f : Form) → map_g bare_state (on_hide e l s y ps f) ≡ on_hide e (bare_line l) (bare_set s) (bare_symbol y) (map bare_point ps) (bare_form f)
 on_hide-bare e l s y ps f =
@@ -231,13 +231,13 @@ last-bare (e ∷ f ∷ es) = last-bare (f ∷ es)
 
 pub joined-bare : (b : Bool) (o : Option Edge) (row : ℕ) (v : List Num) → joined b (map_o bare_edge o) row v ≡ joined b o row v
 joined-bare false o row v = refl
-joined-bare true none row v = refl
-joined-bare true (some e) row v = refl
+joined-bare true None row v = refl
+joined-bare true (Some e) row v = refl
 
 pub join-bare : (b : Bool) (o : Option Edge) (row : ℕ) → join_of b (map_o bare_edge o) row ≡ join_of b o row
 join-bare false o row = refl
-join-bare true none row = refl
-join-bare true (some e) row = refl
+join-bare true None row = refl
+join-bare true (Some e) row = refl
 
 on_element-bare : (e : Env) (l : Line) (s : Set) (h : ℕ) (fs : List Figure) (n : ℕ) (w : Wire) (row : ℕ) (v : List Num)
     → map_g bare_state (on_element e l s h fs n w row v) ≡ on_element e (bare_line l) (bare_set s) h (map bare_figure fs) 0 (bare_wire w) row v
@@ -252,9 +252,9 @@ new_number-bare s fs j v = rw (nums-bare v, set-serials s, figures-serials fs)
 attribute-bare : (w : Wire) (j : ℕ) (v : Value) → bare_wire (with_attribute w j v) ≡ with_attribute (bare_wire w) j (bare_value v)
 attribute-bare w j v = go (is_group_row j)
   where
-    go : (b : Bool) → bare_wire (cond b (with_groups (set w.groups (j - first_group_row) (group_at w j ++ nums_of v ∷ [])) w) (with_once (set w.own j (some v)) w))
+    go : (b : Bool) → bare_wire (cond b (with_groups (set w.groups (j - first_group_row) (group_at w j ++ nums_of v ∷ [])) w) (with_once (set w.own j (Some v)) w))
         ≡ cond b (with_groups (set w.groups (j - first_group_row) (group_at w j ++ nums_of (bare_value v) ∷ [])) (bare_wire w))
-        (with_once (set (bare_slots w.own) j (some (bare_value v))) (bare_wire w))
+        (with_once (set (bare_slots w.own) j (Some (bare_value v))) (bare_wire w))
     go true = rw (nums-bare v)
     go false = rw (← (own_bare w.own j v))
 

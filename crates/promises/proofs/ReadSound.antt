@@ -1,7 +1,7 @@
 -- An accepted spool: its class, its records, and what is kept of its figures.
+use Rattle.std.specs.Prelude.{Option, Some, None}
 use Prim.Native.Nat.{ℕ, ◌/◌}
 use mathlib.Core.List.{List}
-use mathlib.Core.Option.{Option, none, some}
 use mathlib.Core.Path.{◌≡◌, refl, sym, ◌∙◌}
 use Rattle.rules.specs.declared.Class.{Class}
 use Rattle.rules.specs.RangeClass.{class_of}
@@ -21,7 +21,7 @@ use Rattle.promises.proofs.TwoClasses.{taken, outcome-at}
 
 pub record ReadSound (class wire len : ℕ) (spool : List ℕ) (s : Set) : Type 0 where
   pub at : Class
-  pub listed : class_of class wire ≡ some at
+  pub listed : class_of class wire ≡ Some at
   pub records : read_records class wire len spool ≡ records_of at s
   pub fits : FitSet AnyText s
   pub sound : Sound (limited_to at (len / width)) s
@@ -30,8 +30,8 @@ pub read-sound : (class wire len : ℕ) (spool : List ℕ) (s : Set) → read_ou
 read-sound class wire len spool s e = go (class_of class wire) refl
   where
     go : (o : Option Class) → class_of class wire ≡ o → ReadSound class wire len spool s
-    go none p = not-accepted (sym (no-class len spool class wire p) ∙ e)
-    go (some c) p =
+    go None p = not-accepted (sym (no-class len spool class wire p) ∙ e)
+    go (Some c) p =
         let env = limited_to c (len / width) in
         let h = parsed env spool s (sym (outcome-at len spool class wire c p) ∙ e) in
         let ls = listing 1 h.volumes h.texts in

@@ -1,8 +1,8 @@
 -- The volume and line of each record of a set: those of the line at which it was taken, in the order of the lines.
+use Rattle.std.specs.Prelude.{Option, Some}
 use Prim.Native.Nat.{ℕ, suc, ◌+◌}
 use mathlib.Core.Bool.{Bool, true, false, cond, ◌&&◌, not}
 use mathlib.Core.List.{List, [], ◌∷◌, ◌++◌, map}
-use mathlib.Core.Option.{Option, some}
 use mathlib.Core.Path.{◌≡◌, refl, ◌∙◌, ap, ap₂}
 use native.Mathlib.Omega.{arith}
 use lib.Dec.{eqb}
@@ -154,7 +154,7 @@ clear_later = (refl, refl)
 -- ── the records of a set ──
 points-at : (kind owner k : ℕ) (ps : List Point) → map place_of (point_records kind owner k ps) ≡ point_places k ps
 points-at kind owner k [] = refl
-points-at kind owner k (p ∷ ps) = ap₂ ◌∷◌ (slot-place kind owner k p.line (point_table true) clear-point 0 (some (nums p.values))) (points-at kind owner k ps)
+points-at kind owner k (p ∷ ps) = ap₂ ◌∷◌ (slot-place kind owner k p.line (point_table true) clear-point 0 (Some (nums p.values))) (points-at kind owner k ps)
 
 placed_at : (c d : Digits) (kind owner k n : ℕ) (h : Held) → place_of (mark_unread c d placed_table (put_held placed_tables h (start kind owner k n))) ≡ place k n
 placed_at c d kind owner k n h =
@@ -167,9 +167,9 @@ edge_at : (owner k : ℕ) (e : Edge) → place_of (edge_record owner k e) ≡ pl
 edge_at owner k e =
     let t = start (kind_edge + e.row) owner k e.line in
     let r = rule_at wire_table e.row in
-    let u = put_slot r (some (nums e.values)) t in
+    let u = put_slot r (Some (nums e.values)) t in
     let at : (i : ℕ) → not (eqb i place_join) ≡ true → all (misses i) wire_table ≡ true → get_or (set u place_join (pos e.join)) i (pos 0) ≡ get_or t i (pos 0) =
-    λ i q m. set_miss place_join i (pos e.join) u q ∙ slot_miss i r (some (nums e.values)) t (at-misses i wire_table e.row m) in
+    λ i q m. set_miss place_join i (pos e.join) u q ∙ slot_miss i r (Some (nums e.values)) t (at-misses i wire_table e.row m) in
     place_kept (kind_edge + e.row) owner k e.line (edge_record owner k e) (at 2 refl (at-two wire_table clear-wire)) (at 3 refl (at-three wire_table clear-wire))
 
 edges_at : (owner k : ℕ) (es : List Edge) → map place_of (edge_records owner k es) ≡ edge_places k es
@@ -223,8 +223,8 @@ unread-at w owner k n =
 figure-at : (w : View) → clear w.table ≡ true → (more owner k : ℕ) (f : Figure) → map place_of (figure_records w more owner k f) ≡ figure_places k f
 figure-at w e more owner k (plain n j v) =
     by_cond (λ (r : List ℤ). place_of r ∷ [] ≡ place k n ∷ []) (eqb j 6)
-    (λ _. ap (λ p. p ∷ []) (placed_at w.class.symbols w.symbols (16 + more) owner k n ((some (nums v) ∷ []) ∷ [])))
-    (λ _. ap (λ p. p ∷ []) (slot-place (10 + more + j) owner k n w.table e j (some (nums v))))
+    (λ _. ap (λ p. p ∷ []) (placed_at w.class.symbols w.symbols (16 + more) owner k n ((Some (nums v) ∷ []) ∷ [])))
+    (λ _. ap (λ p. p ∷ []) (slot-place (10 + more + j) owner k n w.table e j (Some (nums v))))
 figure-at w e more owner k (chain n ps) = ap (λ qs. place k n ∷ qs) (points-at (17 + more) owner k ps)
 figure-at w e more owner k (lettering n s) = ap (λ p. p ∷ []) (slots-place (15 + more) owner k n (text_table true 4 12) clear-text s)
 figure-at w e more owner k (placed n h) = ap (λ p. p ∷ []) (placed_at w.class.symbols w.symbols (16 + more) owner k n h)

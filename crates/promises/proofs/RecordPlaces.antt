@@ -1,8 +1,8 @@
 -- Records differ in their places alone, where only rows of text hold text.
+use Rattle.std.specs.Prelude.{Option, Some, None}
 use Prim.Native.Nat.{ℕ, zero, suc, ◌+◌, ◌/◌, ◌≤◌}
 use mathlib.Core.Bool.{Bool, true, false, cond, ◌&&◌, ◌||◌, not}
 use mathlib.Core.List.{List, [], ◌∷◌, ◌++◌, map}
-use mathlib.Core.Option.{Option, none, some}
 use mathlib.Core.Path.{◌≡◌, refl, sym, ◌∙◌, ap, ap₂}
 use lib.Dec.{eqb}
 use lib.IntN.{ℤ, pos, negsuc}
@@ -52,11 +52,11 @@ other-slots [] = refl
 other-slots (o ∷ s) = refl
 
 state-bare : (o : Option Value) → state_of (map_o bare_value o) ≡ state_of o
-state-bare none = refl
-state-bare (some empty) = refl
-state-bare (some (nums v)) = refl
-state-bare (some (chars at c)) = refl
-state-bare (some (linked n ps)) = refl
+state-bare None = refl
+state-bare (Some empty) = refl
+state-bare (Some (nums v)) = refl
+state-bare (Some (chars at c)) = refl
+state-bare (Some (linked n ps)) = refl
 
 text-columns : (d : Kind) → is_text d ≡ true → columns d ≡ 2
 text-columns (values p ps a) e = cc
@@ -134,14 +134,14 @@ module _ (p : ℕ → Bool) where
 
   numbers_apart : (d : Kind) (b : Bool) (q : ℕ) (o : Option Value) (t u : List ℤ) → (not (is_text d) || hides_place q) ≡ true → FitSlot AnyText (is_text d) b o → without p t ≡ without p u
       → without p (put_numbers q (padded (columns d) (numbers_of o)) t) ≡ without p (put_numbers q (padded (columns d) (numbers_of (map_o bare_value o))) u)
-  numbers_apart d b q none t u a f e = numbers-same q _ t u e
-  numbers_apart d b q (some empty) t u a f e = numbers-same q _ t u e
-  numbers_apart d b q (some (nums v)) t u a f e = numbers-same q _ t u e
-  numbers_apart d b zero (some (chars at c)) t u a f e = e
-  numbers_apart d b (suc q) (some (chars at c)) t u a f e =
+  numbers_apart d b q None t u a f e = numbers-same q _ t u e
+  numbers_apart d b q (Some empty) t u a f e = numbers-same q _ t u e
+  numbers_apart d b q (Some (nums v)) t u a f e = numbers-same q _ t u e
+  numbers_apart d b zero (Some (chars at c)) t u a f e = e
+  numbers_apart d b (suc q) (Some (chars at c)) t u a f e =
       rw (text-columns d f.0)
       (set_same (set t (suc q) (pos at)) (set u (suc q) (pos 0)) (suc (suc q)) (pos (length c)) (set-hidden t u (suc q) (pos at) (pos 0) (rw f.0 at a) e))
-  numbers_apart d b q (some (linked n ps)) t u a f e = numbers-same q _ t u e
+  numbers_apart d b q (Some (linked n ps)) t u a f e = numbers-same q _ t u e
 
   slot_apart : (r : Rule) (o : Option Value) (t u : List ℤ) → row_apart r ≡ true → FitSlot AnyText (is_text r.holds) (is_shown r.holds) o → without p t ≡ without p u
       → without p (put_slot r o t) ≡ without p (put_slot r (map_o bare_value o) u)
@@ -213,7 +213,7 @@ line-apart r o kind owner volume line =
 edge-apart : (owner volume : ℕ) (e : Edge) → places_apart (edge_record owner volume e) ≡ places_apart (edge_record owner volume (bare_edge e))
 edge-apart owner volume e =
     let r = rule_at wire_table e.row in
-    let v = some (nums e.values) in
+    let v = Some (nums e.values) in
     let kind = kind_edge + e.row in
     let j = pos e.join in
     let t = put_slot r v (start kind owner volume e.line) in
@@ -284,7 +284,7 @@ more_in false = 20
 points-apart : (kind owner volume : ℕ) (ps : List Point) → Apart (point_records kind owner volume ps) (point_records kind owner volume (map bare_point ps))
 points-apart kind owner volume [] = no_record
 points-apart kind owner volume (p ∷ ps) =
-    one_more (line-apart (rule_at (point_table true) 0) (some (nums p.values)) kind owner volume p.line) (points-apart kind owner volume ps)
+    one_more (line-apart (rule_at (point_table true) 0) (Some (nums p.values)) kind owner volume p.line) (points-apart kind owner volume ps)
 
 chain-apart : (more owner volume line : ℕ) (ps : List Point) → places_apart (chain_record more owner volume line ps) ≡ places_apart (chain_record more owner volume 0 (map bare_point ps))
 chain-apart more owner volume line ps = rw (length-map ps bare_point, type-bare ps)
@@ -319,12 +319,12 @@ plain-apart : (w : View) (more owner volume line j : ℕ) (v : List Num)
 plain-apart w more owner volume line j v = go (eqb j 6)
   where
     h : Held
-    h = (some (nums v) ∷ []) ∷ []
+    h = (Some (nums v) ∷ []) ∷ []
 
     go : (b : Bool) → places_apart (cond b (placed_record w more owner volume line h) (plain_record w more owner volume line j v))
         ≡ places_apart (cond b (placed_record w more owner volume 0 h) (plain_record w more owner volume 0 j v))
     go true = placed-line w more owner volume line h
-    go false = line-apart (rule_at w.table j) (some (nums v)) (10 + more + j) owner volume line
+    go false = line-apart (rule_at w.table j) (Some (nums v)) (10 + more + j) owner volume line
 
 edges-apart : (owner volume : ℕ) (es : List Edge) → Apart (edge_records owner volume es) (edge_records owner volume (map bare_edge es))
 edges-apart owner volume [] = no_record

@@ -1,8 +1,8 @@
 -- Every refusal of the reading has a number from 1 to 19 or 21, from 4 at a line, 1 to 3 before, and a volume of the spool where it has one.
+use Rattle.std.specs.Prelude.{Option, Some, None}
 use Prim.Native.Nat.{ℕ, zero, suc, ◌+◌, ◌≤◌}
 use mathlib.Core.Bool.{Bool, true, false}
 use mathlib.Core.List.{List, [], ◌∷◌, ◌++◌}
-use mathlib.Core.Option.{Option, none, some}
 use mathlib.Core.Path.{◌≡◌, refl, sym, subst}
 use native.Mathlib.Omega.{arith}
 use lib.Dec.{eqb}
@@ -250,8 +250,8 @@ fine-onto ls (listed rest) p (lines q) = lines (fine-append ls rest p q)
 fine-onto ls (no_lines v) p q = none3
 
 fine_list : (k : ℕ) (v : Volume) (vs : List Volume) (ls : Option (List (List ℕ))) (rest : Listed) → FineListed rest → FineListed (list_volume k v vs ls rest)
-fine_list k v vs none rest w = none3
-fine_list k v vs (some ls) rest w = fine-onto _ rest (fine-volume k (next_name vs) v.place ls) w
+fine_list k v vs None rest w = none3
+fine_list k v vs (Some ls) rest w = fine-onto _ rest (fine-volume k (next_name vs) v.place ls) w
 
 fine-volumes : (k : ℕ) (vs : List Volume) → FineListed (list_volumes k vs)
 fine-volumes k [] = lines no_line
@@ -327,9 +327,9 @@ told-volumes e spool = go (volumes_of spool) refl
     by u vs (no_lines v) q w m = told_in 3 v 0 (omega arith) (omega arith) refl m.0 m.1
 
     go : (o : Option (List Volume)) → volumes_of spool ≡ o → OutcomeTold (outcome_of_volumes e o)
-    go none p = told-whole 2 (omega arith) (omega arith) refl
-    go (some []) p = absurd (let w = volumes_inv spool [] p in omega (arith, w.one))
-    go (some (u ∷ vs)) p =
+    go None p = told-whole 2 (omega arith) (omega arith) refl
+    go (Some []) p = absurd (let w = volumes_inv spool [] p in omega (arith, w.one))
+    go (Some (u ∷ vs)) p =
         by u vs (list_volumes 1 (u ∷ vs)) refl (fine-volumes 1 (u ∷ vs))
         (listing-within 1 most_volumes 0 (u ∷ vs) (omega arith) (let w = volumes_inv spool (u ∷ vs) p in omega (arith, w.few)))
 
@@ -338,5 +338,5 @@ unfolding outcome_of
 told-spool e spool = told-volumes e spool
 
 pub told_at : (c : Option Class) (m : Option ℕ) (spool : List ℕ) → OutcomeTold (outcome_at c m spool)
-told_at none m spool = told-whole 1 (omega arith) (omega arith) refl
-told_at (some c) m spool = told-spool (record { class = c; limit = m }) spool
+told_at None m spool = told-whole 1 (omega arith) (omega arith) refl
+told_at (Some c) m spool = told-spool (record { class = c; limit = m }) spool

@@ -1,4 +1,5 @@
 -- Demand 2 of calls of the reader and the rewriter, proved from their contracts and the theorems of the demands.
+use Rattle.std.specs.Prelude.{Ok}
 use Prim.Native.Nat.{ℕ, ◌*◌, ◌≤◌}
 use mathlib.Core.List.{List, map}
 use mathlib.Core.Path.{◌≡◌, refl, sym, ◌∙◌, ap, ap₂, subst}
@@ -6,7 +7,6 @@ use native.Mathlib.Nat.{le_refl}
 use native.Mathlib.Omega.{arith}
 use lib.ListN.{length, take}
 use lib.Seq.{take_at}
-use Rattle.rules.specs.declared.Answer.TheVariants.{Accepted}
 use Rattle.rules.specs.Base.{map_o}
 use Rattle.rules.specs.Spool.{names_of, volumes_of}
 use Rattle.rules.specs.Sets.{Set}
@@ -27,21 +27,21 @@ use Rattle.promises.proofs.ShownTexts.{wire-texts, texts-kept}
 use Rattle.promises.proofs.TwoClasses.{taken}
 
 -- ── the rewriter's answer ──
-written-set : (len : ℕ) (spool : List ℕ) (n : ℕ) → rewrite_answer len spool ≡ Accepted n → (s : Set) × (rewrite_outcome spool ≡ accepted s)
+written-set : (len : ℕ) (spool : List ℕ) (n : ℕ) → rewrite_answer len spool ≡ Ok n → (s : Set) × (rewrite_outcome spool ≡ accepted s)
 unfolding rewrite_answer
 written-set len spool n e = go (rewrite_outcome spool) (length (written spool)) e
   where
-    go : (o : Outcome) (k : ℕ) → fit_output len k (answer_with k o) ≡ Accepted n → (s : Set) × (o ≡ accepted s)
+    go : (o : Outcome) (k : ℕ) → fit_output len k (answer_with k o) ≡ Ok n → (s : Set) × (o ≡ accepted s)
     go (refused j v l) k e = absurd (let z : ◌≡◌ {A = ℕ} 0 1 = cc in omega arith)
     go (accepted s) k e = (s, refl)
 
 -- the first n bytes of the output are what is written
-first-bytes : (len : ℕ) (spool : List ℕ) (n : ℕ) → rewrite_answer len spool ≡ Accepted n → take n (rewrite_output len spool) ≡ written spool
+first-bytes : (len : ℕ) (spool : List ℕ) (n : ℕ) → rewrite_answer len spool ≡ Ok n → take n (rewrite_output len spool) ≡ written spool
 first-bytes len spool n e =
     let w = (demand-one.rewriter len spool).when_accepted n e in
     ap (take n) w.stands ∙ take_at (written spool) _ n w.count
 
-call-table : (call : Call) (n : ℕ) → call.answer ≡ Accepted n → first_records n call.after ≡ read_records call.class call.wire (length call.before) call.spool
+call-table : (call : Call) (n : ℕ) → call.answer ≡ Ok n → first_records n call.after ≡ read_records call.class call.wire (length call.before) call.spool
 call-table call n e =
     ap (first_records n) call.fills ∙ table-records call.class call.wire (length call.before) call.spool n (sym call.answers ∙ e)
 
@@ -72,10 +72,10 @@ module _ (spool : List ℕ) (s : Set) (e : rewrite_outcome spool ≡ accepted s)
   call-set : read_outcome full_number full_wire len spool ≡ accepted s
   call-set = fits-table len spool s e w.room
 
-  call-answer : read_answer full_number full_wire len spool ≡ Accepted count
+  call-answer : read_answer full_number full_wire len spool ≡ Ok count
   call-answer = (taken len spool full_number full_wire full_class s class15 call-set).1
 
-  call-accepts : call.answer ≡ Accepted count
+  call-accepts : call.answer ≡ Ok count
   call-accepts = call.answers ∙ asked (λ c x b. read_answer c x len b) w.full w.full_wires w.lent ∙ call-answer
 
   call-shows : first_records count call.after ≡ records_of full_class s
@@ -104,7 +104,7 @@ same-records spool s e b =
     }
 
 -- ── a rewriting of a spool whose set is s ──
-calls_back : (w : Rewriting) (n : ℕ) → w.answer ≡ Accepted n → (s : Set) → rewrite_outcome w.spool ≡ accepted s → CallsBack w n
+calls_back : (w : Rewriting) (n : ℕ) → w.answer ≡ Ok n → (s : Set) → rewrite_outcome w.spool ≡ accepted s → CallsBack w n
 calls_back w n e s q =
     let len = length w.before in
     let spool = w.spool in
@@ -126,7 +126,7 @@ calls_back w n e s q =
           let read_back = ap (λ k. first_records k again.after) (sym many) ∙ call-shows (written spool) b.set b.again again h in
           record {
             accepts = call-accepts spool s q first f;
-            count = call-accepts (written spool) b.set b.again again h ∙ ap Accepted many;
+            count = call-accepts (written spool) b.set b.again again h ∙ ap Ok many;
             records =
                 ap (map places_apart) read_back ∙ same.records ∙ sym (ap (map places_apart) (call-shows spool s q first f));
             texts =
@@ -135,7 +135,7 @@ calls_back w n e s q =
       writes = λ again lent room.
           let its = length again.before in
           let long : length (written (written spool)) ≡ n = ap length b.twice ∙ size in
-          let answer = room-accepts its (written spool) b.set b.again (subst (λ k. k ≤ its) (sym long) room) ∙ ap Accepted long in
+          let answer = room-accepts its (written spool) b.set b.again (subst (λ k. k ≤ its) (sym long) room) ∙ ap Ok long in
           record {
             count = again.answers ∙ ap (rewrite_answer its) (lent ∙ bytes) ∙ answer;
             bytes =

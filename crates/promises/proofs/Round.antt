@@ -1,14 +1,13 @@
 -- Demand 2, proved: the fixed form of an accepted spool, read back and written again.
+use Rattle.std.specs.Prelude.{Some, None, Ok}
 use Prim.Native.Nat.{ℕ, suc, ◌+◌, ◌*◌, ◌/◌, ◌≤◌}
 use mathlib.Core.Bool.{true, cond, not}
 use mathlib.Core.List.{List, [], ◌∷◌, ◌++◌, map}
-use mathlib.Core.Option.{none, some}
 use mathlib.Core.Path.{◌≡◌, refl, sym, ◌∙◌, ap, ap₂, subst}
 use native.Mathlib.Omega.{arith}
 use lib.ListN.{length, length-map}
 use borrow.Author.Tests.{le-leb}
 use Rattle.rules.specs.declared.Class.{Class}
-use Rattle.rules.specs.declared.Answer.TheVariants.{Accepted}
 use Rattle.rules.specs.Base.{map_o, is_nil, all, total}
 use Rattle.rules.specs.Spool.{Volume, names_of, volumes_of, unlines}
 use Rattle.rules.specs.Sets.{Contents, Set, nothing_yet}
@@ -43,7 +42,7 @@ use Rattle.promises.proofs.ShownTexts.{shown-texts, read-shows}
 use Rattle.promises.proofs.TextPlaces.{texts-bare, wires-bare}
 
 -- what is written of a spool whose set is known
-written_is : (spool : List ℕ) (vs : List Volume) (s : Set) → volumes_of spool ≡ some vs → rewrite_outcome spool ≡ accepted s → written spool ≡ fixed_form (names_of vs) s
+written_is : (spool : List ℕ) (vs : List Volume) (s : Set) → volumes_of spool ≡ Some vs → rewrite_outcome spool ≡ accepted s → written spool ≡ fixed_form (names_of vs) s
 unfolding written
 written_is spool vs s p e = ap₂ (λ o r. written_in (names_in o) r) p e
 
@@ -85,7 +84,7 @@ unfolding read_answer
 answer-with len spool o q = ap (answer_with (length (read_records full_number full_wire len spool))) q
 
 -- an answer that accepts comes of an outcome that accepts, and counts its records
-accepted_inv : (len : ℕ) (spool : List ℕ) (n : ℕ) → read_answer full_number full_wire len spool ≡ Accepted n
+accepted_inv : (len : ℕ) (spool : List ℕ) (n : ℕ) → read_answer full_number full_wire len spool ≡ Ok n
     → (u : Set) × (read_outcome full_number full_wire len spool ≡ accepted u) × (length (records_of full_class u) ≡ n)
 accepted_inv len spool n e = go (read_outcome full_number full_wire len spool) refl
   where
@@ -94,11 +93,11 @@ accepted_inv len spool n e = go (read_outcome full_number full_wire len spool) r
     go (accepted u) q = (u, q, let z = sym (taken len spool full_number full_wire full_class u class15 q).1 ∙ e in cc)
 
 -- with room for it the rewriter accepts
-pub room-accepts : (len : ℕ) (spool : List ℕ) (s : Set) → rewrite_outcome spool ≡ accepted s → length (written spool) ≤ len → rewrite_answer len spool ≡ Accepted (length (written spool))
+pub room-accepts : (len : ℕ) (spool : List ℕ) (s : Set) → rewrite_outcome spool ≡ accepted s → length (written spool) ≤ len → rewrite_answer len spool ≡ Ok (length (written spool))
 unfolding rewrite_answer
 room-accepts len spool s e h =
     let n = length (written spool) in
-    ap (λ o. fit_output len n (answer_with n o)) e ∙ ap (λ b. cond b (Accepted n) (refusal 20 0 0)) (le-leb n len h)
+    ap (λ o. fit_output len n (answer_with n o)) e ∙ ap (λ b. cond b (Ok n) (refusal 20 0 0)) (le-leb n len h)
 
 -- the lines written weigh no more than the lines read
 no_longer : (vs : List Volume) (ts : List Text) (s : Set) → Texts vs ts → all some_lines ts ≡ true → run plain_env (top nothing_yet 0) (listing 1 vs ts) ≡ accepted s
@@ -203,7 +202,7 @@ module _ (spool : List ℕ) (s : Set) (outcome : rewrite_outcome spool ≡ accep
       omega arith
 
   -- ── the output is a spool, and is read as the same set ──
-  again-found : volumes_of output ≡ some (laid 0 names bodies)
+  again-found : volumes_of output ≡ Some (laid 0 names bodies)
   again-found =
       let a = output-length in
       let b = spooled.fits in
@@ -257,9 +256,9 @@ module _ (spool : List ℕ) (s : Set) (outcome : rewrite_outcome spool ≡ accep
     -- as many records
     again-taken : t.taken ≡ s.taken
     again-taken =
-        sym (taken-counts full_class full_class none (listing 1 (laid 0 names bodies) lines) t a.runs)
+        sym (taken-counts full_class full_class None (listing 1 (laid 0 names bodies) lines) t a.runs)
         ∙ sym (length-map (records_of full_class t) places_apart) ∙ ap length (again-records full_class) ∙ length-map (records_of full_class s) places_apart
-        ∙ taken-counts full_class full_class none (listing 1 vs p.texts) s p.runs
+        ∙ taken-counts full_class full_class None (listing 1 vs p.texts) s p.runs
 
     -- so the count of records is the same, and the whole set
     again-set : bare_set t ≡ bare_set s
@@ -274,7 +273,7 @@ module _ (spool : List ℕ) (s : Set) (outcome : rewrite_outcome spool ≡ accep
         ∙ sym (shown-texts spool (records_of c s) (texts_kept s) (read-shows plain_env c spool s (sym (rewrite-is spool) ∙ outcome)))
 
     again-names : map_o names_of (volumes_of (written spool)) ≡ map_o names_of (volumes_of spool)
-    again-names = ap (map_o names_of) (ap volumes_of is-output ∙ again-found) ∙ ap some (names-laid 0 names bodies as-bodies) ∙ sym (ap (map_o names_of) p.found)
+    again-names = ap (map_o names_of) (ap volumes_of is-output ∙ again-found) ∙ ap Some (names-laid 0 names bodies as-bodies) ∙ sym (ap (map_o names_of) p.found)
 
     -- ── with a table ──
     module _ (len : ℕ) (u : Set) (reads : read_outcome full_number full_wire len spool ≡ accepted u) where
@@ -317,7 +316,7 @@ module _ (spool : List ℕ) (s : Set) (outcome : rewrite_outcome spool ≡ accep
         count = λ len n e.
             let (u, o, q) = accepted_inv len spool n e in
             let w = taken len (written spool) full_number full_wire full_class a.set class15 (again-limited a len u o) in
-            w.1 ∙ ap Accepted (sym (length-map (records_of full_class a.set) places_apart) ∙ ap length (again-records a full_class) ∙ length-map (records_of full_class s) places_apart
+            w.1 ∙ ap Ok (sym (length-map (records_of full_class a.set) places_apart) ∙ ap length (again-records a full_class) ∙ length-map (records_of full_class s) places_apart
             ∙ ap (λ v. length (records_of full_class v)) (sym (same_set a len u o)) ∙ q);
         records = λ len n e.
             let (u, o, q) = accepted_inv len spool n e in

@@ -1,8 +1,8 @@
 -- Laws of rows: a line that was read under a row of a table is written back as a line that reads as the same, and is no longer.
+use Rattle.std.specs.Prelude.{Option, Some, None}
 use Prim.Native.Nat.{ℕ, zero, suc, ◌+◌, ◌≤◌}
 use mathlib.Core.Bool.{Bool, true, false, cond, ◌&&◌, ◌||◌, not}
 use mathlib.Core.List.{List, [], ◌∷◌, ◌++◌}
-use mathlib.Core.Option.{Option, none, some}
 use mathlib.Core.Path.{◌≡◌, refl, sym, ◌∙◌, ap, subst}
 use native.Mathlib.Omega.{arith}
 use lib.Dec.{eqb, leb}
@@ -45,15 +45,15 @@ row-does : (k : Known) (d : Digits) (j : ℕ) (r : Rule) (x : Rest) (s : Shape) 
 row-does k d j r x s a q h l f g = rw (q, h, l, f, twice-not r.times, g)
 
 -- ── what a line's rest says of its shape ──
-stem-some : (s t : List ℕ) → stem s ≡ some t → s ≡ t ++ bytes ":{"
+stem-some : (s t : List ℕ) → stem s ≡ Some t → s ≡ t ++ bytes ":{"
 stem-some [] t e = none-some e
 stem-some (b ∷ s) t e = go (same (b ∷ s) (bytes ":{")) refl (stem-some s) e
   where
-    go : (h : Bool) → same (b ∷ s) (bytes ":{") ≡ h → ((u : List ℕ) → stem s ≡ some u → s ≡ u ++ bytes ":{") → cond h (some []) (map_o (λ u. b ∷ u) (stem s)) ≡ some t → b ∷ s ≡ t ++ bytes ":{"
+    go : (h : Bool) → same (b ∷ s) (bytes ":{") ≡ h → ((u : List ℕ) → stem s ≡ Some u → s ≡ u ++ bytes ":{") → cond h (Some []) (map_o (λ u. b ∷ u) (stem s)) ≡ Some t → b ∷ s ≡ t ++ bytes ":{"
     go true q ih e = let z : [] ≡ t = cc in rw (← z) (same-eq (b ∷ s) (bytes ":{") q)
     go false q ih e = let (u, p, z) = map-some (λ u. b ∷ u) (stem s) t e in rw (← z) (ap (λ l. b ∷ l) (ih u p))
 
-stem_open : (t : List ℕ) → stem (t ++ bytes ":{") ≡ some t
+stem_open : (t : List ℕ) → stem (t ++ bytes ":{") ≡ Some t
 stem_open [] = refl
 stem_open (b ∷ t) = rw (longer t, stem_open t)
   where
@@ -66,7 +66,7 @@ stem_open (b ∷ t) = rw (longer t, stem_open t)
 pub data Seen (free : Bool) : Rest → Shape → Type 0 where
   opened : Seen free brace opener
   hollow : {at : ℕ} → Seen free (equals at []) no_content
-  filled : {at : ℕ} {c : List ℕ} → is_nil c ≡ false → (free ≡ false → stem c ≡ none) → Seen free (equals at c) (content at c)
+  filled : {at : ℕ} {c : List ℕ} → is_nil c ≡ false → (free ≡ false → stem c ≡ None) → Seen free (equals at c) (content at c)
   heading : {at : ℕ} {t : List ℕ} → is_nil t ≡ false → Seen free (equals at (t ++ bytes ":{")) (opening at t)
   unformed : {x : Rest} → Seen free x formless
 
@@ -79,12 +79,12 @@ seen false (equals at []) = hollow
 seen false (equals at (b ∷ c)) = go (stem (b ∷ c)) refl
   where
     go : (o : Option (List ℕ)) → stem (b ∷ c) ≡ o → Seen false (equals at (b ∷ c)) (by_stem at (b ∷ c) o)
-    go none q = filled refl (λ _. q)
-    go (some []) q = unformed
-    go (some (h ∷ t)) q = subst (λ (l : List ℕ). Seen false (equals at l) (opening at (h ∷ t))) (sym (stem-some (b ∷ c) (h ∷ t) q)) (heading refl)
+    go None q = filled refl (λ _. q)
+    go (Some []) q = unformed
+    go (Some (h ∷ t)) q = subst (λ (l : List ℕ). Seen false (equals at l) (opening at (h ∷ t))) (sym (stem-some (b ∷ c) (h ∷ t) q)) (heading refl)
 
 -- the shapes of what is written
-shape-content : (free : Bool) (w : List ℕ) → is_nil w ≡ false → (free ≡ false → stem w ≡ none) → cond free (free_shape_of (equals 0 w)) (shape_of (equals 0 w)) ≡ content 0 w
+shape-content : (free : Bool) (w : List ℕ) → is_nil w ≡ false → (free ≡ false → stem w ≡ None) → cond free (free_shape_of (equals 0 w)) (shape_of (equals 0 w)) ≡ content 0 w
 shape-content free [] n e = clash refl n
 shape-content true (b ∷ w) n e = refl
 shape-content false (b ∷ w) n e = rw (e refl)
@@ -196,7 +196,7 @@ module _ (k : Known) (d : Digits) (n : ℕ) (most : n ≤ 512) (r : Rule) (key :
   hollow-taken at b o t f = equal-taken empty [] no_content b refl t.0 (cond_same (is_free r.holds) no_content) refl f (λ j. rw o)
 
   -- `key=content`
-  filled-taken : (v : Value) (at : ℕ) (c : List ℕ) → is_nil c ≡ false → (is_free r.holds ≡ false → stem c ≡ none) → read_kind k r.holds at c ≡ got v
+  filled-taken : (v : Value) (at : ℕ) (c : List ℕ) → is_nil c ≡ false → (is_free r.holds ≡ false → stem c ≡ None) → read_kind k r.holds at c ≡ got v
       → behind k r.holds v ≡ 61 ∷ show_content k r.holds v → opens_block r.holds v ≡ false → Tells n (keyed r.key (equals at c))
       → fits r.holds r.may (content 0 (show_content k r.holds v)) ≡ true → Taken k d r v n
   filled-taken v at c full shut e b o t f =

@@ -1,8 +1,8 @@
 -- The rows `serial` of placed symbols and of wires, and what their records show of them: own numbers, and the partners of wires.
+use Rattle.std.specs.Prelude.{Option, Some, None}
 use Prim.Native.Nat.{ℕ, zero, suc, ◌<◌}
 use mathlib.Core.Bool.{Bool, true, false, cond, ◌||◌}
 use mathlib.Core.List.{List, [], ◌∷◌, ◌++◌, map, append-nil}
-use mathlib.Core.Option.{Option, none, some}
 use mathlib.Core.Path.{◌≡◌, refl, sym, ◌∙◌, ap, ap₂, subst}
 use native.Mathlib.Omega.{arith}
 use lib.Dec.{eqb}
@@ -65,20 +65,20 @@ known-shown : (c d : Digits) → knows_serials c ≡ true → hides c d (digits 
 known-shown c d e = rw e (and_false (reaches d (digits 1 0)))
 
 symbol-slot : (hidden known : Bool) (o : Option Value) → (known ≡ true → hidden ≡ false) → KnownSlot known IsSerial o → shown_of hidden o ≡ first_of o
-symbol-slot true known none h g = refl
-symbol-slot false known none h g = refl
-symbol-slot hidden known (some empty) h g = rw (h g.0)
-symbol-slot hidden known (some (nums v)) h g = absurd g.1
-symbol-slot hidden known (some (chars at c)) h g = absurd g.1
-symbol-slot hidden known (some (linked n ps)) h g = rw (h g.0)
+symbol-slot true known None h g = refl
+symbol-slot false known None h g = refl
+symbol-slot hidden known (Some empty) h g = rw (h g.0)
+symbol-slot hidden known (Some (nums v)) h g = absurd g.1
+symbol-slot hidden known (Some (chars at c)) h g = absurd g.1
+symbol-slot hidden known (Some (linked n ps)) h g = rw (h g.0)
 
 wire-slot : (hidden known : Bool) (o : Option Value) → (known ≡ true → hidden ≡ false) → KnownSlot known IsNums o → shown_of hidden o ≡ first_of o
-wire-slot true known none h g = refl
-wire-slot false known none h g = refl
-wire-slot hidden known (some empty) h g = absurd g.1
-wire-slot hidden known (some (nums v)) h g = rw (h g.0) (ap (λ (n : ℕ). n ∷ []) (amount-at 0 v))
-wire-slot hidden known (some (chars at c)) h g = absurd g.1
-wire-slot hidden known (some (linked n ps)) h g = absurd g.1
+wire-slot true known None h g = refl
+wire-slot false known None h g = refl
+wire-slot hidden known (Some empty) h g = absurd g.1
+wire-slot hidden known (Some (nums v)) h g = rw (h g.0) (ap (λ (n : ℕ). n ∷ []) (amount-at 0 v))
+wire-slot hidden known (Some (chars at c)) h g = absurd g.1
+wire-slot hidden known (Some (linked n ps)) h g = absurd g.1
 
 -- the number of an end, by its state
 abbrev end_of : ℤ → ℤ → List ℕ
@@ -91,44 +91,44 @@ abbrev ends_shown : Bool → Option Value → List ℕ
 ends_shown hidden o = cond (eqb (amount_of (cond hidden (pos 3) (state_of o))) 2) (ends_in (numbers_of o)) []
 
 wire-ends : (hidden known : Bool) (o : Option Value) → (known ≡ true → hidden ≡ false) → KnownSlot known IsNums o → ends_shown hidden o ≡ partners_of o
-wire-ends true known none h g = refl
-wire-ends false known none h g = refl
-wire-ends hidden known (some empty) h g = absurd g.1
-wire-ends hidden known (some (nums v)) h g = rw (h g.0) (ap₂ ◌++◌ (one 1) (one 3))
+wire-ends true known None h g = refl
+wire-ends false known None h g = refl
+wire-ends hidden known (Some empty) h g = absurd g.1
+wire-ends hidden known (Some (nums v)) h g = rw (h g.0) (ap₂ ◌++◌ (one 1) (one 3))
   where
     one : (i : ℕ) → end_of (first_or0 (past_numbers i (map (λ n. n.value) v))) (first_or0 (past_numbers (suc i) (map (λ n. n.value) v))) ≡ given_at v i
     one i = rw (amount-at i v, amount-at (suc i) v)
-wire-ends hidden known (some (chars at c)) h g = absurd g.1
-wire-ends hidden known (some (linked n ps)) h g = absurd g.1
+wire-ends hidden known (Some (chars at c)) h g = absurd g.1
+wire-ends hidden known (Some (linked n ps)) h g = absurd g.1
 
 -- ── what is taken of symbols and of wires ──
 abbrev pub symbol_first : Held → List ℕ
-symbol_first h = first_of (get_or (part_of h 0) 5 none)
+symbol_first h = first_of (get_or (part_of h 0) 5 None)
 
 abbrev pub wire_first : Wire → List ℕ
-wire_first w = first_of (get_or w.own 9 none)
+wire_first w = first_of (get_or w.own 9 None)
 
 abbrev pub no_ends : Held → List ℕ
 no_ends h = []
 
 abbrev pub wire_ends : Wire → List ℕ
-wire_ends w = partners_of (get_or w.own 9 none)
+wire_ends w = partners_of (get_or w.own 9 None)
 
 -- ── a placed symbol ──
 module _ (c : Class) (s : Set) where
   abbrev view : View
   view = view_of c s
 
-  symbol-own : (owner volume n : ℕ) (h : Held) → SymbolSlot c h → own_number (placed_record view 0 owner volume n h) ≡ first_of (get_or (part_of h 0) 5 none)
+  symbol-own : (owner volume n : ℕ) (h : Held) → SymbolSlot c h → own_number (placed_record view 0 owner volume n h) ≡ first_of (get_or (part_of h 0) 5 None)
   unfolding placed_table text_table
   symbol-own owner volume n h g =
       let hidden = hides c.symbols view.symbols (digits 1 0) in
-      subst (λ (q : Option Value). shown_of hidden q ≡ first_of (get_or (part_of h 0) 5 none)) (sym (slot_at 5 (part_of h 0)))
-      (symbol-slot hidden (knows_serials c.symbols) (get_or (part_of h 0) 5 none) (known-shown c.symbols view.symbols) g)
+      subst (λ (q : Option Value). shown_of hidden q ≡ first_of (get_or (part_of h 0) 5 None)) (sym (slot_at 5 (part_of h 0)))
+      (symbol-slot hidden (knows_serials c.symbols) (get_or (part_of h 0) 5 None) (known-shown c.symbols view.symbols) g)
 
-  single-own : (owner volume n : ℕ) (v : List Num) → own_number (placed_record view 0 owner volume n ((some (nums v) ∷ []) ∷ [])) ≡ []
+  single-own : (owner volume n : ℕ) (v : List Num) → own_number (placed_record view 0 owner volume n ((Some (nums v) ∷ []) ∷ [])) ≡ []
   unfolding placed_table
-  single-own owner volume n v = symbol-own owner volume n ((some (nums v) ∷ []) ∷ []) tt
+  single-own owner volume n v = symbol-own owner volume n ((Some (nums v) ∷ []) ∷ []) tt
 
   pub symbol-kind : (owner volume n : ℕ) (h : Held) → kind_of (placed_record view 0 owner volume n h) ≡ 16
   unfolding placed_table text_table
@@ -157,25 +157,25 @@ module _ (c : Class) (s : Set) where
   two_show : {X : Type 0} (own more elements shown : List X) → own ≡ [] → more ≡ shown → elements ≡ [] → own ++ (more ++ elements) ≡ shown
   two_show own more elements shown p q r = ap₂ ◌++◌ p (ap₂ ◌++◌ q r) ∙ append-nil shown
 
-  wire-own : (owner volume n : ℕ) (w : Wire) → SoundWire c (wire_range s) w → flat (map own_number (figure_records view 0 owner volume (wired n w))) ≡ first_of (get_or w.own 9 none)
+  wire-own : (owner volume n : ℕ) (w : Wire) → SoundWire c (wire_range s) w → flat (map own_number (figure_records view 0 owner volume (wired n w))) ≡ first_of (get_or w.own 9 None)
   wire-own owner volume n w i =
       let r = wire-shows view w owner volume n in
       let own = take 32 (both view w owner volume n) in
       let more = drop 32 (both view w owner volume n) in
-      two_show (own_number own) (own_number more) (flat (map own_number (edge_records owner volume w.elements))) (first_of (get_or w.own 9 none)) (own-none own 18 r.kind refl refl)
+      two_show (own_number own) (own_number more) (flat (map own_number (edge_records owner volume w.elements))) (first_of (get_or w.own 9 None)) (own-none own 18 r.kind refl refl)
       (own-more more r.kind_too ∙ ap₂ (λ (a b : ℤ). cond (eqb (amount_of a) 2) (amount_of b ∷ []) []) r.state r.serial
-      ∙ wire-slot (unknown view w owner volume n) (knows_serials c.wires) (get_or w.own 9 none) (known-shown c.wires (wires_of s)) i.serial)
+      ∙ wire-slot (unknown view w owner volume n) (knows_serials c.wires) (get_or w.own 9 None) (known-shown c.wires (wires_of s)) i.serial)
       (edges-own owner volume w.elements i.rows)
 
-  wire-ends-shown : (owner volume n : ℕ) (w : Wire) → SoundWire c (wire_range s) w → flat (map ends_of (figure_records view 0 owner volume (wired n w))) ≡ partners_of (get_or w.own 9 none)
+  wire-ends-shown : (owner volume n : ℕ) (w : Wire) → SoundWire c (wire_range s) w → flat (map ends_of (figure_records view 0 owner volume (wired n w))) ≡ partners_of (get_or w.own 9 None)
   wire-ends-shown owner volume n w i =
       let r = wire-shows view w owner volume n in
       let ends = ap₂ ◌++◌ (ap₂ end_of r.start r.start_too) (ap₂ end_of r.end r.end_too) in
       let own = take 32 (both view w owner volume n) in
       let more = drop 32 (both view w owner volume n) in
-      two_show (ends_of own) (ends_of more) (flat (map ends_of (edge_records owner volume w.elements))) (partners_of (get_or w.own 9 none)) (ends-none own 18 r.kind refl)
+      two_show (ends_of own) (ends_of more) (flat (map ends_of (edge_records owner volume w.elements))) (partners_of (get_or w.own 9 None)) (ends-none own 18 r.kind refl)
       (ends_more more r.kind_too ∙ ap₂ (λ (a : ℤ) (ns : List ℕ). cond (eqb (amount_of a) 2) ns []) r.state ends
-      ∙ wire-ends (unknown view w owner volume n) (knows_serials c.wires) (get_or w.own 9 none) (known-shown c.wires (wires_of s)) i.serial)
+      ∙ wire-ends (unknown view w owner volume n) (knows_serials c.wires) (get_or w.own 9 None) (known-shown c.wires (wires_of s)) i.serial)
       (edges-ends owner volume w.elements i.rows)
 
   -- ── one that was skipped ──
@@ -213,7 +213,7 @@ module _ (c : Class) (s : Set) where
   pub ends-shown : Shown ends_of ends-quiet no_ends wire_ends c s
   ends-shown = record {
     symbols = λ owner volume n h g. ends-none (placed_record view 0 owner volume n h) 16 (symbol-kind owner volume n h) refl;
-    single = λ owner volume n v. ends-none (placed_record view 0 owner volume n ((some (nums v) ∷ []) ∷ [])) 16 (symbol-kind owner volume n ((some (nums v) ∷ []) ∷ [])) refl;
+    single = λ owner volume n v. ends-none (placed_record view 0 owner volume n ((Some (nums v) ∷ []) ∷ [])) 16 (symbol-kind owner volume n ((Some (nums v) ∷ []) ∷ [])) refl;
     wires = λ owner volume n w i. record { are = wire-ends-shown owner volume n w i };
     skipped = λ owner volume n. record { are = skip-ends owner volume n };
   }

@@ -1,8 +1,8 @@
 -- Whatever E_wire a good FILE_FORMAT has, wire part 18 knows all of it.
+use Rattle.std.specs.Prelude.{Some, None}
 use Prim.Native.Nat.{ℕ, ◌/◌, ◌%◌}
 use mathlib.Core.Bool.{Bool, true, false}
 use mathlib.Core.List.{List, [], ◌∷◌}
-use mathlib.Core.Option.{none, some}
 use mathlib.Core.Path.{◌≡◌, refl, sym, subst}
 use native.Mathlib.Omega.{arith}
 use lib.Dec.{eqb, leb}
@@ -67,9 +67,9 @@ slots-served : (s : Slots) → GoodSlots (Always none0) elec_table s → served_
 unfolding elec_table
 slots-served [] g = absurd g
 slots-served (o ∷ []) g = refl
-slots-served (o ∷ none ∷ s) g = refl
-slots-served (none ∷ some v ∷ s) g = slot-served v g.0
-slots-served (some u ∷ some v ∷ s) g = slot-served v g.1.0
+slots-served (o ∷ None ∷ s) g = refl
+slots-served (None ∷ Some v ∷ s) g = slot-served v g.0
+slots-served (Some u ∷ Some v ∷ s) g = slot-served v g.1.0
 
 part-served : (b : Bool) (s : Slots) → GoodPart b (Always none0) none0 elec_table s → served_wires (number_of "E_wire" elec_table s) ≡ true
 unfolding elec_table
@@ -79,4 +79,4 @@ part-served false s g = rw g
 pub wires-known : (f : Held) → GoodFile f → exceeds (digits_of (number_of "E_wire" elec_table (part_of f 3))) full_class.wires ≡ false
 wires-known f g =
     served-known (number_of "E_wire" elec_table (part_of f 3))
-    (subst (λ (f : Held). served_wires (number_of "E_wire" elec_table (part_of f 3)) ≡ true) (sym g.is) (part-served (is_one (get_or g.range 2 none)) g.elec g.elec-good))
+    (subst (λ (f : Held). served_wires (number_of "E_wire" elec_table (part_of f 3)) ≡ true) (sym g.is) (part-served (is_one (get_or g.range 2 None)) g.elec g.elec-good))

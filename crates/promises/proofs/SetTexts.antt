@@ -1,8 +1,8 @@
 -- The records of a set show the texts that it keeps, where every text that is kept stands in the spool at its place.
+use Rattle.std.specs.Prelude.{Option, Some, None}
 use Prim.Native.Nat.{ℕ, zero, suc, ◌+◌, ◌<◌}
 use mathlib.Core.Bool.{Bool, true, false, cond}
 use mathlib.Core.List.{List, [], ◌∷◌, ◌++◌, map}
-use mathlib.Core.Option.{Option, none, some}
 use mathlib.Core.Path.{◌≡◌, refl, sym, subst}
 use native.Mathlib.Omega.{arith}
 use lib.IntN.{ℤ, pos}
@@ -38,14 +38,14 @@ module _ (spool : List ℕ) where
 
   -- ── one text ──
   slot-shows : (o : Option Value) → FitSlot S true true o → Shows spool (first_or0 (numbers_of o)) (first_or0 (others (numbers_of o))) (chars_of (slot_value o))
-  slot-shows none f = Shows.empty
-  slot-shows (some empty) f = Shows.empty
-  slot-shows (some (nums v)) f = clash refl f
-  slot-shows (some (chars at c)) f = f.1 refl
-  slot-shows (some (linked n ps)) f = clash refl f
+  slot-shows None f = Shows.empty
+  slot-shows (Some empty) f = Shows.empty
+  slot-shows (Some (nums v)) f = clash refl f
+  slot-shows (Some (chars at c)) f = f.1 refl
+  slot-shows (Some (linked n ps)) f = clash refl f
 
   column : (i : ℕ) (s : Slots) → FitSlot S true true (first_slot (past_slots i s))
-      → Shows spool (first_or0 (numbers_of (first_slot (past_slots i s)))) (first_or0 (others (numbers_of (first_slot (past_slots i s))))) (chars_of (slot_value (get_or s i none)))
+      → Shows spool (first_or0 (numbers_of (first_slot (past_slots i s)))) (first_or0 (others (numbers_of (first_slot (past_slots i s))))) (chars_of (slot_value (get_or s i None)))
   column i s f =
       subst (λ o. Shows spool (first_or0 (numbers_of (first_slot (past_slots i s)))) (first_or0 (others (numbers_of (first_slot (past_slots i s))))) (chars_of (slot_value o)))
       (slot_at i s) (slot-shows (first_slot (past_slots i s)) f)
@@ -117,7 +117,7 @@ module _ (spool : List ℕ) where
 
   layers_show : (n : ℕ) (ls : List Layer) → Each (FitLayer S) ls → Show (layer_records n ls) (map layer_kept ls)
   layers_show n [] h = no_record
-  layers_show n (l ∷ ls) h = record { texts = ((slot-shows (some l.name) h.0, tt), (layers_show (suc n) ls h.1).texts) }
+  layers_show n (l ∷ ls) h = record { texts = ((slot-shows (Some l.name) h.0, tt), (layers_show (suc n) ls h.1).texts) }
 
   -- ── figures ──
   points_show : (kind owner volume : ℕ) (ps : List Point) → text_places kind ≡ [] → Show (point_records kind owner volume ps) (map point_kept ps)

@@ -1,7 +1,7 @@
 -- The records of an accepted spool point at the texts that its set keeps.
+use Rattle.std.specs.Prelude.{Option, Some, None}
 use Prim.Native.Nat.{ℕ, ◌+◌, ◌/◌}
 use mathlib.Core.List.{List, [], ◌∷◌, ◌++◌, map, append_assoc}
-use mathlib.Core.Option.{Option, none, some}
 use mathlib.Core.Path.{◌≡◌, refl, sym, ◌∙◌, ap, ap₂, subst}
 use lib.IntN.{ℤ}
 use lib.ListN.{length, take, drop, length-append}
@@ -62,7 +62,7 @@ read-stands e spool s h =
     let lines = listing-fits spool 1 p.volumes p.texts p.theirs (volumes_stand spool p.volumes p.found) in
     wires_stand spool s (accepted-fit (Standing spool) e (listing 1 p.volumes p.texts) s lines p.runs)
 
-pub no-class : (len : ℕ) (spool : List ℕ) (class wire : ℕ) → class_of class wire ≡ none → read_outcome class wire len spool ≡ refused 1 0 0
+pub no-class : (len : ℕ) (spool : List ℕ) (class wire : ℕ) → class_of class wire ≡ None → read_outcome class wire len spool ≡ refused 1 0 0
 unfolding read_outcome
 no-class len spool class wire p = rw p
 
@@ -70,8 +70,8 @@ pub texts-kept : TextsKept
 texts-kept class wire len spool s e = go (class_of class wire) refl
   where
     go : (o : Option Class) → class_of class wire ≡ o → ShowTexts spool (read_records class wire len spool) (texts_kept s)
-    go none p = not-accepted (sym (no-class len spool class wire p) ∙ e)
-    go (some c) p =
+    go None p = not-accepted (sym (no-class len spool class wire p) ∙ e)
+    go (Some c) p =
         subst (λ rs. ShowTexts spool rs (texts_kept s)) (sym (taken len spool class wire c s p e).0)
         (read-shows (limited_to c (len / width)) c spool s (sym (outcome-at len spool class wire c p) ∙ e))
 
@@ -79,5 +79,5 @@ pub wire-texts : WireTexts
 wire-texts class wire len spool s e = go (class_of class wire) refl
   where
     go : (o : Option Class) → class_of class wire ≡ o → WiresStand spool (texts_of_wires s)
-    go none p = not-accepted (sym (no-class len spool class wire p) ∙ e)
-    go (some c) p = read-stands (limited_to c (len / width)) spool s (sym (outcome-at len spool class wire c p) ∙ e)
+    go None p = not-accepted (sym (no-class len spool class wire p) ∙ e)
+    go (Some c) p = read-stands (limited_to c (len / width)) spool s (sym (outcome-at len spool class wire c p) ∙ e)

@@ -1,8 +1,8 @@
 -- The lines of a spool by their texts: which volume's they are, how long, and that no volume of an accepted set is empty.
+use Rattle.std.specs.Prelude.{Option, Some, None}
 use Prim.Native.Nat.{ℕ, suc, ◌+◌}
 use mathlib.Core.Bool.{Bool, true, false, cond, ◌&&◌, ◌||◌, not}
 use mathlib.Core.List.{List, [], ◌∷◌, ◌++◌, map}
-use mathlib.Core.Option.{Option, none, some}
 use mathlib.Core.Path.{◌≡◌, refl, sym, ◌∙◌, ap}
 use native.Mathlib.Omega.{arith}
 use lib.Dec.{eqb, leb}
@@ -40,7 +40,7 @@ abbrev pub Texts : List Volume → List Text → Type 0
 Texts [] [] = Unit {0}
 Texts [] (t ∷ ts) = ⊥
 Texts (v ∷ vs) [] = ⊥
-Texts (v ∷ vs) (t ∷ ts) = (lines_of v.body ≡ some t) × Texts vs ts
+Texts (v ∷ vs) (t ∷ ts) = (lines_of v.body ≡ Some t) × Texts vs ts
 
 listed-eq : {a b : List Line} → listed a ≡ listed b → a ≡ b
 listed-eq e = cc
@@ -59,9 +59,9 @@ listing_inv k (v ∷ vs) ls e = go (lines_of v.body) refl (list_volumes (suc k) 
   where
     go : (o : Option Text) → lines_of v.body ≡ o → (r : Listed) → list_volumes (suc k) vs ≡ r → ((rest : List Line) → list_volumes (suc k) vs ≡ listed rest → Listing (suc k) vs rest)
         → list_volume k v vs o r ≡ listed ls → Listing k (v ∷ vs) ls
-    go none p r q ih e = no-listed e
-    go (some t) p (no_lines w) q ih e = no-listed e
-    go (some t) p (listed rest) q ih e =
+    go None p r q ih e = no-listed e
+    go (Some t) p (no_lines w) q ih e = no-listed e
+    go (Some t) p (listed rest) q ih e =
         let i = ih rest q in
         record { texts = t ∷ i.texts; theirs = (p, i.theirs); are = sym (listed-eq e) ∙ ap (λ r. lines_of_volume k (next_name vs) v.place t ++ r) i.are }
 

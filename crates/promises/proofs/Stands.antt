@@ -1,8 +1,8 @@
 -- One text written for another that was read: no longer, of allowed bytes, and opening nothing where the other is so.
+use Rattle.std.specs.Prelude.{Option, Some, None}
 use Prim.Native.Nat.{ℕ, ◌≤◌}
 use mathlib.Core.Bool.{Bool, true, false, cond, ◌&&◌, ◌||◌, not}
 use mathlib.Core.List.{List, [], ◌∷◌, ◌++◌}
-use mathlib.Core.Option.{Option, none, some}
 use mathlib.Core.Path.{◌≡◌, refl, sym}
 use native.Mathlib.Nat.{le_refl}
 use native.Mathlib.Omega.{arith}
@@ -30,16 +30,16 @@ allowed_seam x t l s lead (b ∷ u) v =
     go false e = refl
 
 -- ── what opens ──
-pub stem-tail : (b : ℕ) (s : List ℕ) → stem (b ∷ s) ≡ none → stem s ≡ none
+pub stem-tail : (b : ℕ) (s : List ℕ) → stem (b ∷ s) ≡ None → stem s ≡ None
 stem-tail b s e = go (same (b ∷ s) (bytes ":{")) (stem s) e
   where
-    go : (t : Bool) (o : Option (List ℕ)) → cond t (some []) (map_o (λ r. b ∷ r) o) ≡ none → o ≡ none
+    go : (t : Bool) (o : Option (List ℕ)) → cond t (Some []) (map_o (λ r. b ∷ r) o) ≡ None → o ≡ None
     go true o e = none-some (sym e)
-    go false none e = refl
-    go false (some r) e = none-some (sym e)
+    go false None e = refl
+    go false (Some r) e = none-some (sym e)
 
 -- the end of a text that opens nothing
-pub stem_end : (u v : List ℕ) → stem (u ++ v) ≡ none → stem v ≡ none
+pub stem_end : (u v : List ℕ) → stem (u ++ v) ≡ None → stem v ≡ None
 stem_end [] v e = e
 stem_end (b ∷ u) v e = stem_end u v (stem-tail b (u ++ v) e)
 
@@ -50,11 +50,11 @@ not-opener (b ∷ c ∷ []) v = rw (and_false (eqb c 123), and_false (eqb b 58))
 not-opener (b ∷ c ∷ d ∷ u) v = rw (and_false (eqb c 123), and_false (eqb b 58))
 
 -- what stands behind a comma opens nothing, so the whole does not
-pub stem_comma : (u v : List ℕ) → stem v ≡ none → stem (u ++ 44 ∷ v) ≡ none
+pub stem_comma : (u v : List ℕ) → stem v ≡ None → stem (u ++ 44 ∷ v) ≡ None
 stem_comma [] v e = rw e
 stem_comma (b ∷ u) v e = rw (not-opener (b ∷ u) v, stem_comma u v e)
 
-stem-free : (s : List ℕ) → free 58 s ≡ true → stem s ≡ none
+stem-free : (s : List ℕ) → free 58 s ≡ true → stem s ≡ None
 stem-free [] e = refl
 stem-free (b ∷ s) e = rw (free-head 58 b s e, stem-free s (free-tail 58 b s e))
 
@@ -64,7 +64,7 @@ pub record Stands (s t : List ℕ) : Type 0 where
   pub full : is_nil s ≡ false → is_nil t ≡ false
   pub short : length t ≤ length s
   pub okay : allowed s ≡ true → allowed t ≡ true
-  pub shut : stem s ≡ none → stem t ≡ none
+  pub shut : stem s ≡ None → stem t ≡ None
 
 pub stands_same : (s : List ℕ) → Stands s s
 stands_same s = record { full = λ e. e; short = le_refl (length s); okay = λ e. e; shut = λ e. e }

@@ -1,8 +1,8 @@
 -- Demand 3, proved.
+use Rattle.std.specs.Prelude.{Option, Some, None, Ok, Err}
 use Prim.Native.Nat.{ℕ, zero, suc, ◌/◌, ◌%◌, ◌≤◌}
 use mathlib.Core.Bool.{Bool, true, false, ◌&&◌, ◌||◌, not}
 use mathlib.Core.List.{List, [], ◌∷◌}
-use mathlib.Core.Option.{Option, none, some}
 use mathlib.Core.Path.{◌≡◌, refl, sym, ◌∙◌, ap, subst}
 use native.Mathlib.Omega.{arith}
 use lib.Dec.{eqb, leb}
@@ -10,7 +10,6 @@ use lib.ListN.{length}
 use borrow.Author.Tests.{eqb-true, eqb-false, ne_eqb, leb-true, le-leb}
 use Rattle.rules.specs.declared.Class.{Class}
 use Rattle.rules.specs.declared.Refusal.{Refusal}
-use Rattle.rules.specs.declared.Answer.TheVariants.{Accepted, Refused}
 use Rattle.rules.specs.Spool.{Volume, volumes_of}
 use Rattle.rules.specs.Base.{within}
 use Rattle.rules.specs.RangeClass.{digits_of, is_symbol_part, is_wire_part, class_of, knows_wires, knows_serials}
@@ -40,8 +39,8 @@ module _ (low high : Class) (le : ClassNotAbove low high) (reads : knows_serials
   AcceptedToo o s = (took : ℕ) × (o ≡ accepted (lower_set took low s)) × Rows s
 
   accepts : (o : Option (List Volume)) (s : Set) → outcome_of_volumes hi o ≡ accepted s → AcceptedToo (outcome_of_volumes lo o) s
-  accepts none s e = not-accepted e
-  accepts (some vs) s e = go (list_volumes 1 vs) e
+  accepts None s e = not-accepted e
+  accepts (Some vs) s e = go (list_volumes 1 vs) e
     where
       go : (l : Listed) → outcome_of_lines hi l ≡ accepted s → AcceptedToo (outcome_of_lines lo l) s
       go (listed ls) e = sim-run low high le reads m ls 0 (top nothing_yet 0) s (beside-start low high le reads m) e
@@ -57,22 +56,22 @@ module _ (low high : Class) (le : ClassNotAbove low high) (reads : knows_serials
   refuses : (spool : List ℕ) (k v n : ℕ) → outcome_of_volumes lo (volumes_of spool) ≡ refused k v n → There (outcome_of_volumes hi (volumes_of spool)) v n
   refuses spool k v n e = go (volumes_of spool) refl e
     where
-      by : (vs : List Volume) → volumes_of spool ≡ some vs → (l : Listed) → list_volumes 1 vs ≡ l → outcome_of_lines lo l ≡ refused k v n → There (outcome_of_lines hi l) v n
+      by : (vs : List Volume) → volumes_of spool ≡ Some vs → (l : Listed) → list_volumes 1 vs ≡ l → outcome_of_lines lo l ≡ refused k v n → There (outcome_of_lines hi l) v n
       by [] p l q e = absurd (let w = volumes_inv spool [] p in omega (arith, w.one))
       by (u ∷ vs) p (no_lines w) q e = both (refused 3 w 0) k v n e
       by (u ∷ vs) p (listed ls) q e = refused_too low high le reads m ls 0 (top nothing_yet 0) (beside-start low high le reads m) (lines-proper 1 u vs ls q) (lines-whole 0 (u ∷ vs) ls q).sorted k v n e
 
       go : (o : Option (List Volume)) → volumes_of spool ≡ o → outcome_of_volumes lo o ≡ refused k v n → There (outcome_of_volumes hi o) v n
-      go none p e = both (refused 2 0 0) k v n e
-      go (some vs) p e = by vs p (list_volumes 1 vs) refl e
+      go None p e = both (refused 2 0 0) k v n e
+      go (Some vs) p e = by vs p (list_volumes 1 vs) refl e
 
 -- ── the answers ──
-pub taken : (len : ℕ) (spool : List ℕ) (class wire : ℕ) (c : Class) (s : Set) → class_of class wire ≡ some c → read_outcome class wire len spool ≡ accepted s
-    → (read_records class wire len spool ≡ records_of c s) × (read_answer class wire len spool ≡ Accepted (length (records_of c s)))
+pub taken : (len : ℕ) (spool : List ℕ) (class wire : ℕ) (c : Class) (s : Set) → class_of class wire ≡ Some c → read_outcome class wire len spool ≡ accepted s
+    → (read_records class wire len spool ≡ records_of c s) × (read_answer class wire len spool ≡ Ok (length (records_of c s)))
 unfolding read_records read_answer
 taken len spool class wire c s p e = (rw (e, p), rw (e, p))
 
-pub outcome-at : (len : ℕ) (spool : List ℕ) (class wire : ℕ) (c : Class) → class_of class wire ≡ some c
+pub outcome-at : (len : ℕ) (spool : List ℕ) (class wire : ℕ) (c : Class) → class_of class wire ≡ Some c
     → read_outcome class wire len spool ≡ outcome_of_volumes (limited_to c (len / width)) (volumes_of spool)
 unfolding read_outcome outcome_of
 outcome-at len spool class wire c p = rw p
@@ -102,7 +101,7 @@ digits-agree c h = go (eqb c.wires.last 0) refl
         pos-one zero f = absurd (f refl)
         pos-one (suc n) f = omega arith
 
-listed-agrees : (class wire : ℕ) (c : Class) → class_of class wire ≡ some c → Agree c
+listed-agrees : (class wire : ℕ) (c : Class) → class_of class wire ≡ Some c → Agree c
 unfolding class_of
 listed-agrees class wire c e =
     let (p, q) = cond-some (is_symbol_part class && is_wire_part wire) (record { symbols = digits_of class; wires = digits_of wire }) c e in
@@ -126,14 +125,14 @@ lower-accepts lo lo_wire hi hi_wire low high cs len spool set e =
     let a = taken len spool hi hi_wire high set cs.higher e in
     let b = taken len spool lo lo_wire low (lower_set took low set) cs.lower down in
     let r = records-lower low high cs.below agree took set rows ∙ ap (lowered low set) (sym a.0) in
-    (b.1 ∙ ap (λ rs. Accepted (length rs)) r, b.0 ∙ r)
+    (b.1 ∙ ap (λ rs. Ok (length rs)) r, b.0 ∙ r)
 
 -- an answer that refuses comes of an outcome that refuses
-refused_inv : (len : ℕ) (spool : List ℕ) (class wire : ℕ) (r : Refusal) → read_answer class wire len spool ≡ Refused r → read_outcome class wire len spool ≡ refused r.number r.volume r.line
+refused_inv : (len : ℕ) (spool : List ℕ) (class wire : ℕ) (r : Refusal) → read_answer class wire len spool ≡ Err r → read_outcome class wire len spool ≡ refused r.number r.volume r.line
 unfolding read_answer
 refused_inv len spool class wire r e = go (read_outcome class wire len spool) (length (read_records class wire len spool)) e
   where
-    go : (o : Outcome) (n : ℕ) → answer_with n o ≡ Refused r → o ≡ refused r.number r.volume r.line
+    go : (o : Outcome) (n : ℕ) → answer_with n o ≡ Err r → o ≡ refused r.number r.volume r.line
     go (refused k v l) n e = let z : record { number = k; volume = v; line = l } ≡ r = cc in ap (λ (q : Refusal). refused q.number q.volume q.line) z
     go (accepted s) n e = absurd (let z : ◌≡◌ {A = ℕ} 0 1 = cc in omega arith)
 

@@ -1,8 +1,8 @@
 -- Laws of values: what is written of a content that was read reads as the same value again, is no longer, has only allowed bytes, and opens nothing.
+use Rattle.std.specs.Prelude.{Option, Some, None}
 use Prim.Native.Nat.{ℕ, suc, ◌+◌, ◌-◌, ◌≤◌}
 use mathlib.Core.Bool.{Bool, true, false, cond, ◌&&◌, ◌||◌}
 use mathlib.Core.List.{List, [], ◌∷◌, ◌++◌, map}
-use mathlib.Core.Option.{Option, none, some}
 use mathlib.Core.Path.{◌≡◌, refl, sym, ◌∙◌, ap, ap₂, subst}
 use native.Mathlib.Omega.{arith}
 use lib.Dec.{eqb, leb, ltb}
@@ -28,11 +28,11 @@ record Written (k : Known) (p : Part) (s : List ℕ) (a : Num) : Type 0 where
   apart : free 44 s ≡ true → free 44 (show_part k p a) ≡ true
 
 -- a name is written as it was read
-pub name-same : (s : List ℕ) (us : List (List ℕ)) (n : ℕ) → index_of s us ≡ some n → get_or us n [] ≡ s
+pub name-same : (s : List ℕ) (us : List (List ℕ)) (n : ℕ) → index_of s us ≡ Some n → get_or us n [] ≡ s
 name-same s [] n e = none-some e
 name-same s (u ∷ us) n e = go (same s u) refl (name-same s us) e
   where
-    go : (t : Bool) → same s u ≡ t → ((m : ℕ) → index_of s us ≡ some m → get_or us m [] ≡ s) → cond t (some 0) (map_o suc (index_of s us)) ≡ some n
+    go : (t : Bool) → same s u ≡ t → ((m : ℕ) → index_of s us ≡ Some m → get_or us m [] ≡ s) → cond t (Some 0) (map_o suc (index_of s us)) ≡ Some n
         → get_or (u ∷ us) n [] ≡ s
     go true q ih e = let z : 0 ≡ n = cc in rw (← z) (sym (same-eq s u q))
     go false q ih e = let (m, p, z) = map-some suc (index_of s us) n e in rw (← z) (ih m p)
@@ -341,12 +341,12 @@ ratio-back c v e = go (cut 47 c) refl e
 abbrev as_named : List ℕ × ℕ × ℕ → Bool
 as_named a = same (show_sheet a.1 a.2) a.0
 
-sheet-same : (c : List ℕ) (t : List (List ℕ × ℕ × ℕ)) → all as_named t ≡ true → (v : List Num) → find_sheet c t ≡ some v → (n : ℕ) × (a : ℕ) × (two_nums n a ≡ v) × (show_sheet n a ≡ c)
+sheet-same : (c : List ℕ) (t : List (List ℕ × ℕ × ℕ)) → all as_named t ≡ true → (v : List Num) → find_sheet c t ≡ Some v → (n : ℕ) × (a : ℕ) × (two_nums n a ≡ v) × (show_sheet n a ≡ c)
 sheet-same c [] o v e = none-some e
 sheet-same c (x ∷ t) o v e = go (same c x.0) refl (sheet-same c t (and_right (as_named x) _ o) v) e
   where
-    go : (b : Bool) → same c x.0 ≡ b → (find_sheet c t ≡ some v → (n : ℕ) × (a : ℕ) × (two_nums n a ≡ v) × (show_sheet n a ≡ c))
-        → cond b (some (two_nums x.1 x.2)) (find_sheet c t) ≡ some v → (n : ℕ) × (a : ℕ) × (two_nums n a ≡ v) × (show_sheet n a ≡ c)
+    go : (b : Bool) → same c x.0 ≡ b → (find_sheet c t ≡ Some v → (n : ℕ) × (a : ℕ) × (two_nums n a ≡ v) × (show_sheet n a ≡ c))
+        → cond b (Some (two_nums x.1 x.2)) (find_sheet c t) ≡ Some v → (n : ℕ) × (a : ℕ) × (two_nums n a ≡ v) × (show_sheet n a ≡ c)
     go true q ih e = (x.1, x.2, cc, same-eq (show_sheet x.1 x.2) x.0 (and_left (as_named x) _ o) ∙ sym (same-eq c x.0 q))
     go false q ih e = ih e
 
@@ -397,7 +397,7 @@ pub record Kept (k : Known) (d : Kind) (c : List ℕ) (v : Value) : Type 0 where
   pub back : read_kind k d 0 (show_content k d v) ≡ got (bare_value v)
   pub short : length (show_content k d v) ≤ length c
   pub okay : allowed c ≡ true → allowed (show_content k d v) ≡ true
-  pub shut : stem c ≡ none → stem (show_content k d v) ≡ none
+  pub shut : stem c ≡ None → stem (show_content k d v) ≡ None
 
 kept : (k : Known) (d : Kind) (c : List ℕ) (v : Value) → is_nil c ≡ false → Stands c (show_content k d v) → read_kind k d 0 (show_content k d v) ≡ got (bare_value v) → Kept k d c v
 kept k d c v n w b = record { full = w.full n; back = b; short = w.short; okay = w.okay; shut = w.shut }

@@ -1,8 +1,8 @@
 -- The weight of what the fixed form writes: the bytes of its lines with their CR LF, piece by piece.
+use Rattle.std.specs.Prelude.{Option, Some, None}
 use Prim.Native.Nat.{ℕ, zero, suc, ◌+◌, ◌≤◌}
 use mathlib.Core.Bool.{Bool, true, false, cond}
 use mathlib.Core.List.{List, [], ◌∷◌, ◌++◌}
-use mathlib.Core.Option.{Option, none, some}
 use mathlib.Core.Path.{◌≡◌, refl}
 use native.Mathlib.Omega.{arith}
 use lib.ListN.{length, get_or, set}
@@ -68,8 +68,8 @@ abbrev pub line_cost : Known → Rule → Value → ℕ
 line_cost k r v = length (line_of k r v) + 2 + cond (opens_block r.holds v) 3 0
 
 abbrev pub slot_cost : Known → Rule → Option Value → ℕ
-slot_cost k r none = 0
-slot_cost k r (some v) = line_cost k r v
+slot_cost k r None = 0
+slot_cost k r (Some v) = line_cost k r v
 
 abbrev pub slots_cost : Known → List Rule → Slots → ℕ
 slots_cost k [] s = 0
@@ -86,10 +86,10 @@ blank-cost k (r ∷ t) = omega (arith, blank-cost k t)
 
 -- a line more, in a row that was blank
 pub set-cost : {t : List Rule} {j : ℕ} {r : Rule} → Row t j r → (k : Known) (s : Slots) (v : Value) → get_or (rows_there s) j false ≡ false
-    → slots_cost k t (set s j (some v)) ≤ slots_cost k t s + line_cost k r v
+    → slots_cost k t (set s j (Some v)) ≤ slots_cost k t s + line_cost k r v
 set-cost here k [] v e = omega arith
-set-cost here k (none ∷ s) v e = omega arith
-set-cost here k (some u ∷ s) v e = clash refl e
+set-cost here k (None ∷ s) v e = omega arith
+set-cost here k (Some u ∷ s) v e = clash refl e
 set-cost (there w) k [] v e = omega arith
 set-cost (there w) k (o ∷ s) v e = omega (arith, set-cost w k s v e)
 
@@ -105,8 +105,8 @@ module _ (k : Known) (inner : ℕ → Text → Text) (w : ℕ → ℕ) (h : (i :
   pub slots-weight : (t : List Rule) (s : Slots) (ls : Text) → weigh (show_slots k t s inner ls) ≤ slots_cost k t s + inners_cost w t + weigh ls
   slots-weight [] s ls = omega arith
   slots-weight (r ∷ t) [] ls = omega arith
-  slots-weight (r ∷ t) (none ∷ s) ls = omega (arith, slots-weight t s ls)
-  slots-weight (r ∷ t) (some v ∷ s) ls = omega (arith, value-weight r v (show_slots k t s inner ls), slots-weight t s ls)
+  slots-weight (r ∷ t) (None ∷ s) ls = omega (arith, slots-weight t s ls)
+  slots-weight (r ∷ t) (Some v ∷ s) ls = omega (arith, value-weight r v (show_slots k t s inner ls), slots-weight t s ls)
 
 -- ── inner parts: each is held once, and written at most once ──
 abbrev pub held_cost : Known → List (List Rule) → Held → ℕ

@@ -1,8 +1,8 @@
 -- Every record has 32 numbers: what is put into a record keeps its length.
+use Rattle.std.specs.Prelude.{Some}
 use Prim.Native.Nat.{ℕ, zero, suc, ◌+◌, ◌*◌, ◌-◌, ◌/◌, ◌≤◌}
 use mathlib.Core.Bool.{Bool, true, false}
 use mathlib.Core.List.{List, [], ◌∷◌, ◌++◌, map}
-use mathlib.Core.Option.{some}
 use mathlib.Core.Path.{◌≡◌, refl, ◌∙◌, ap}
 use native.Mathlib.Omega.{arith}
 use lib.IntN.{ℤ, pos}
@@ -75,7 +75,7 @@ flat-length (r ∷ rs) (one_more e w) = omega (arith, length-append r (flat rs),
 -- ── the records of a set ──
 wide-points : (kind owner volume : ℕ) (ps : List Point) → Wide (point_records kind owner volume ps)
 wide-points kind owner volume [] = no_record
-wide-points kind owner volume (p ∷ ps) = one_more (length-slot (rule_at (point_table true) 0) (some (nums p.values)) _) (wide-points kind owner volume ps)
+wide-points kind owner volume (p ∷ ps) = one_more (length-slot (rule_at (point_table true) 0) (Some (nums p.values)) _) (wide-points kind owner volume ps)
 
 -- 64 numbers, cut into 32 and 32
 wide-two : (t : List ℤ) → length t ≡ 64 → Wide (two_of t)
@@ -89,15 +89,15 @@ wide-edges owner volume [] = no_record
 wide-edges owner volume (e ∷ es) =
     let t = start (kind_edge + e.row) owner volume e.line in
     let r = rule_at wire_table e.row in
-    let v = some (nums e.values) in
+    let v = Some (nums e.values) in
     one_more (length-set (put_slot r v t) place_join (pos e.join) ∙ length-slot r v t) (wide-edges owner volume es)
 
 wide-figure : (w : View) (more owner volume : ℕ) (f : Figure) → Wide (figure_records w more owner volume f)
 wide-figure w more owner volume (plain n j v) =
     one_more
     (by_cond (λ (l : List ℤ). length l ≡ 32) (eqb j 6)
-    (λ _. placed-length w.class.symbols w.symbols ((some (nums v) ∷ []) ∷ []) (start (16 + more) owner volume n))
-    (λ _. length-slot (rule_at w.table j) (some (nums v)) _))
+    (λ _. placed-length w.class.symbols w.symbols ((Some (nums v) ∷ []) ∷ []) (start (16 + more) owner volume n))
+    (λ _. length-slot (rule_at w.table j) (Some (nums v)) _))
     no_record
 wide-figure w more owner volume (chain n ps) = one_more refl (wide-points (17 + more) owner volume ps)
 wide-figure w more owner volume (lettering n s) = one_more (length-slots (text_table true 4 12) s _) no_record

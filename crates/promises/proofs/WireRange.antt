@@ -1,9 +1,9 @@
 -- The file's E_wire is that of the first volume's FILE_FORMAT, and stays: where the set is read further without a wire's range, none was there
 -- before.
+use Rattle.std.specs.Prelude.{Some}
 use Prim.Native.Nat.{ℕ, zero, suc}
 use mathlib.Core.Bool.{Bool, true, false, cond, ◌&&◌, ◌||◌, not}
 use mathlib.Core.List.{List, [], ◌∷◌, ◌++◌}
-use mathlib.Core.Option.{some}
 use mathlib.Core.Path.{◌≡◌, refl, sym, ap, subst}
 use lib.Dec.{eqb, leb, ltb}
 use lib.ListN.{length, get_or, set}
@@ -143,8 +143,8 @@ module _ (e : Env) (l : Line) (s : Set) where
   range-symbol : (y : Symbol) (f : Form) → On P (on_symbol s y f)
   range-symbol y f =
       on-by_act P _ _ _ _ (act (known_of s) symbol_table (digits_of (define_range s)) (rows_there y.own) f) (tt, as_before)
-      (λ j v. on-unless P (new_name s (symbol_own (set y.own j (some v)) y)) 15 _ λ _. (tt, as_before))
-      (λ m j v b. range_open-symbol (symbol_own (set y.own j (some v)) y) m)
+      (λ j v. on-unless P (new_name s (symbol_own (set y.own j (Some v)) y)) 15 _ λ _. (tt, as_before))
+      (λ m j v b. range_open-symbol (symbol_own (set y.own j (Some v)) y) m)
       (tt, as_before)
 
   range-hide : (y : Symbol) (ps : List Point) (f : Form) → On P (on_hide e l s y ps f)

@@ -1,8 +1,8 @@
 -- What the two records of a wire show: their kinds, the wire's layer, volume and counts, and its row `serial`.
+use Rattle.std.specs.Prelude.{Option, None}
 use Prim.Native.Nat.{ℕ, zero, suc, ◌+◌, ◌/◌, ◌<◌}
 use mathlib.Core.Bool.{Bool, true, cond}
 use mathlib.Core.List.{List, [], ◌∷◌, map}
-use mathlib.Core.Option.{Option, none}
 use mathlib.Core.Path.{◌≡◌, refl, ◌∙◌, ap, subst}
 use native.Mathlib.Omega.{arith}
 use lib.IntN.{ℤ, pos, negsuc}
@@ -31,7 +31,7 @@ abbrev pub past_slots : ℕ → Slots → Slots
 past_slots zero s = s
 past_slots (suc i) s = past_slots i (other_slots s)
 
-pub slot_at : (i : ℕ) (s : Slots) → first_slot (past_slots i s) ≡ get_or s i none
+pub slot_at : (i : ℕ) (s : Slots) → first_slot (past_slots i s) ≡ get_or s i None
 slot_at zero [] = refl
 slot_at zero (o ∷ s) = refl
 slot_at (suc i) [] = slot_at i []
@@ -93,7 +93,7 @@ module _ (w : View) (x : Wire) (owner volume n : ℕ) where
   unknown = hides w.class.wires (digits_of w.wires) (digits 1 0)
 
   abbrev pub slot : Option Value
-  slot = get_or x.own 9 none
+  slot = get_or x.own 9 None
 
   pub record WireShows (own more : List ℤ) : Type 0 where
     pub kind : kind_of own ≡ 18

@@ -1,8 +1,8 @@
 -- The records of an accepted set say of each wire how its elements are joined, and that two lines which it says are joined meet.
+use Rattle.std.specs.Prelude.{Option, Some, None}
 use Prim.Native.Nat.{ℕ, zero, suc, ◌+◌, ◌/◌, ◌%◌, ◌<◌, ◌≤◌}
 use mathlib.Core.Bool.{Bool, true, false, cond, ◌&&◌, ◌||◌, not}
 use mathlib.Core.List.{List, [], ◌∷◌, ◌++◌, map, append_assoc, append-nil}
-use mathlib.Core.Option.{Option, none, some}
 use mathlib.Core.Path.{◌≡◌, refl, sym, ◌∙◌, ap, ap₂, subst}
 use native.Mathlib.Omega.{arith}
 use lib.Dec.{eqb, leb}
@@ -96,14 +96,14 @@ module _ (owner volume : ℕ) where
   tested f e h false b m j = (said e h).join ∙ ap pos j
 
   abbrev FitFormer : Option Edge → Type 0
-  FitFormer none = Unit {0}
-  FitFormer (some f) = EdgeRow f
+  FitFormer None = Unit {0}
+  FitFormer (Some f) = EdgeRow f
 
   joined_to : (ends : Bool) (former : Option Edge) (e : Edge) → FitFormer former → EdgeRow e → joined ends former e.row e.values ≡ true → e.join ≡ join_of ends former e.row
       → JoinedTo ends (map_o record_of former) (record_of e)
   joined_to false former e p h m j = (said e h).join ∙ ap pos j
-  joined_to true none e p h m j = (said e h).join ∙ ap pos j
-  joined_to true (some f) e p h m j =
+  joined_to true None e p h m j = (said e h).join ∙ ap pos j
+  joined_to true (Some f) e p h m j =
       subst (λ (b : Bool). Tested b (record_of f) (record_of e)) (sym (ap₂ ◌&&◌ (said f p).line (said e h).line))
       (tested f e h (is_line_row f.row && is_line_row e.row) refl m j)
 
@@ -118,7 +118,7 @@ module _ (owner volume : ℕ) where
           volume = s.volume-is ∙ sym b;
           joined = joined_to (eqb (wires / 100) 4) former e p h.0 g.0.meets g.0.join;
         },
-        elements-joined wires own a b (some e) h.0 es h.1 g.1,
+        elements-joined wires own a b (Some e) h.0 es h.1 g.1,
       )
 
 -- ── records that are no wire's ──
@@ -131,7 +131,7 @@ other-above k h = rw (lt-leb k 21 h) (and_false (leb 18 k))
 -- a figure of one line, whose kind goes by its row
 line_other : (w : View) (more owner volume n j : ℕ) (v : List Num) → within 18 21 (10 + more + j) ≡ false → is_of_wire (plain_record w more owner volume n j v) ≡ false
 line_other w more owner volume n j v e =
-    ap (within 18 21) (kind-slot (rule_at w.table j) (some (nums v)) (start (10 + more + j) owner volume n)) ∙ e
+    ap (within 18 21) (kind-slot (rule_at w.table j) (Some (nums v)) (start (10 + more + j) owner volume n)) ∙ e
 
 placed-other : (w : View) (owner volume n : ℕ) (h : Held) → is_of_wire (placed_record w 0 owner volume n h) ≡ false
 unfolding placed_table text_table
@@ -139,7 +139,7 @@ placed-other w owner volume n h = refl
 
 layer-line : (w : View) (owner volume n j : ℕ) (v : List Num) → j < 8 → is_of_wire (line_record w 0 owner volume n j v) ≡ false
 layer-line w owner volume n j v h =
-    by_cond (λ (r : List ℤ). is_of_wire r ≡ false) (eqb j 6) (λ _. placed-other w owner volume n ((some (nums v) ∷ []) ∷ []))
+    by_cond (λ (r : List ℤ). is_of_wire r ≡ false) (eqb j 6) (λ _. placed-other w owner volume n ((Some (nums v) ∷ []) ∷ []))
     (λ _. line_other w 0 owner volume n j v (other-below (10 + 0 + j) (omega arith)))
 
 symbol-line : (owner volume n j : ℕ) (v : List Num) → j < 6 → is_of_wire (line_record plain_view 20 owner volume n j v) ≡ false
@@ -183,7 +183,7 @@ module _ (reads : Bool) (digit : ℕ) where
   points-other : (kind owner volume : ℕ) (ps : List Point) → within 18 21 kind ≡ false → In (point_records kind owner volume ps)
   points-other kind owner volume [] e = no_record
   points-other kind owner volume (p ∷ ps) e =
-      another (ap (within 18 21) (kind-slot (rule_at (point_table true) 0) (some (nums p.values)) (start kind owner volume p.line)) ∙ e) (points-other kind owner volume ps e)
+      another (ap (within 18 21) (kind-slot (rule_at (point_table true) 0) (Some (nums p.values)) (start kind owner volume p.line)) ∙ e) (points-other kind owner volume ps e)
 
   shape-other : (owner : ℕ) (f : Figure) → FitFigure AnyText false f → In (figure_records plain_view 20 owner 1 f)
   unfolding text_table
@@ -230,7 +230,7 @@ module _ (c : Class) (s : Set) where
         unmarked = (r.mark, r.mark_too);
         count = r.count ∙ ap pos (sym (length-map w.elements (edge_record owner volume)));
         first = r.digit;
-        joined = elements-joined owner volume (wire_range s) own r.layer r.volume-is none tt w.elements i.rows i.joins;
+        joined = elements-joined owner volume (wire_range s) own r.layer r.volume-is None tt w.elements i.rows i.joins;
       }) no_record)
 
   wire-skipped : (owner volume n : ℕ) → knows_wires c ≡ false → InView (figure_records view 0 owner volume (passed n))
@@ -295,7 +295,7 @@ part-knows w e = go (eqb w 0) refl
         not-zero zero n = absurd (n refl)
         not-zero (suc w) n = omega arith
 
-class-knows : (class wire : ℕ) (c : Class) → class_of class wire ≡ some c → knows_wires c ≡ not (eqb wire 0)
+class-knows : (class wire : ℕ) (c : Class) → class_of class wire ≡ Some c → knows_wires c ≡ not (eqb wire 0)
 unfolding class_of
 class-knows class wire c e =
     let (t, is) = cond-some (is_symbol_part class && is_wire_part wire) _ c e in
@@ -341,7 +341,7 @@ wire_edges w = map element_of w.elements
 elements-shown_in : (c : Class) (s : Set) → Shown element_in element-quiet no_edges wire_edges c s
 elements-shown_in c s = record {
   symbols = λ owner volume n h g. of-kind (placed_record (view_of c s) 0 owner volume n h) 16 (symbol-kind c s owner volume n h) refl refl;
-  single = λ owner volume n v. of-kind (placed_record (view_of c s) 0 owner volume n ((some (nums v) ∷ []) ∷ [])) 16 (symbol-kind c s owner volume n ((some (nums v) ∷ []) ∷ [])) refl refl;
+  single = λ owner volume n v. of-kind (placed_record (view_of c s) 0 owner volume n ((Some (nums v) ∷ []) ∷ [])) 16 (symbol-kind c s owner volume n ((Some (nums v) ∷ []) ∷ [])) refl refl;
   wires = λ owner volume n w i.
       let r = wire-shows (view_of c s) w owner volume n in
       let own = take 32 (both (view_of c s) w owner volume n) in

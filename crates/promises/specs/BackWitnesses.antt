@@ -1,8 +1,7 @@
 -- Demand 2 is not empty where wires have attributes: a wire whose attributes stand in another order than that of the fixed form, with needless
 -- zeros, with an empty partner, a key that repeats with other keys between, and two texts; and its fixed form, line by line.
-use Rattle.std.specs.Prelude.{ℕ, ◌*◌, List, [], ◌∷◌, ◌++◌, ◌≡◌, take, drop}
+use Rattle.std.specs.Prelude.{ℕ, ◌*◌, List, [], ◌∷◌, ◌++◌, ◌≡◌, take, drop, Ok}
 use Prim.Native.String as S
-use Rattle.rules.specs.declared.Answer.TheVariants.{Accepted}
 use Rattle.rules.specs.Base.{bytes}
 use Rattle.rules.specs.LineByLine.{Outcome, refused, accepted}
 use Rattle.rules.specs.RecordTable.{width}
@@ -42,9 +41,9 @@ abbrev pub wire_shown : List ℕ → List Kept
 wire_shown spool = texts_of spool (take 2 (drop 4 (read_records full_number full_wire (7 * width) spool)))
 
 pub record BackWitnesses : Type 0 where
-  pub taken : read_answer full_number full_wire (7 * width) as_read ≡ Accepted 7
+  pub taken : read_answer full_number full_wire (7 * width) as_read ≡ Ok 7
   pub fixed : written as_read ≡ as_written
-  pub taken_again : read_answer full_number full_wire (7 * width) as_written ≡ Accepted 7
+  pub taken_again : read_answer full_number full_wire (7 * width) as_written ≡ Ok 7
   pub fixed_again : written as_written ≡ as_written
   -- the first text and the circuit, which is empty, are shown; both texts are there
   pub shown : wire_shown as_read ≡ [] ∷ (bytes "A=B" ∷ [] ∷ []) ∷ []

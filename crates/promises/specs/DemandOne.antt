@@ -1,10 +1,8 @@
 -- Demand 1, the part that speaks of the definitions alone: every spool gets an answer, and the lent memory on return is what that answer
 -- says, number for number. (That the code returns these answers and this memory are the contracts of the code; that there is no second
 -- answer is said by the theorems `Unique` of its crates.)
-use Rattle.std.specs.Prelude.{ℕ, ◌*◌, ◌-◌, ◌≤◌, ◌<◌, Bool, true, false, not, eqb, List, [], ◌∷◌, ◌++◌, ◌≡◌, ℤ, pos, length, replicate}
+use Rattle.std.specs.Prelude.{ℕ, ◌*◌, ◌-◌, ◌≤◌, ◌<◌, Bool, true, false, not, eqb, List, [], ◌∷◌, ◌++◌, ◌≡◌, ℤ, pos, length, replicate, Result, Ok, Err}
 use Rattle.rules.specs.declared.Refusal.{Refusal}
-use Rattle.rules.specs.declared.Answer.{Answer}
-use Rattle.rules.specs.declared.Answer.TheVariants.{Accepted, Refused}
 use Rattle.rules.specs.Base.{flat, has_number}
 use Rattle.rules.specs.Spool.{most_volumes}
 use Rattle.rules.specs.Sets.{Set}
@@ -37,9 +35,9 @@ pub record Located (whose : ℕ → Bool) (r : Refusal) : Type 0 where
   pub in_volume : of_whole r.number ≡ false → (1 ≤ r.volume) × (r.volume ≤ most_volumes)
 
 -- a count, or a refusal
-pub data Answered (whose : ℕ → Bool) : Answer → Type 0 where
-  accepted_with : (n : ℕ) → Answered whose (Accepted n)
-  refused_with : (r : Refusal) → Located whose r → Answered whose (Refused r)
+pub data Answered (whose : ℕ → Bool) : Result ℕ Refusal → Type 0 where
+  accepted_with : (n : ℕ) → Answered whose (Ok n)
+  refused_with : (r : Refusal) → Located whose r → Answered whose (Err r)
 
 -- ── the reader ──
 -- each record has 32 numbers
@@ -60,8 +58,8 @@ pub record Reads (class wire len : ℕ) (spool : List ℕ) : Type 0 where
   -- the lent table is as long as it was
   pub size : length (read_table class wire len spool) ≡ len
   -- "Refused: no records, table wholly zero"
-  pub when_refused : (r : Refusal) → read_answer class wire len spool ≡ Refused r → read_table class wire len spool ≡ replicate len (pos 0)
-  pub when_accepted : (n : ℕ) → read_answer class wire len spool ≡ Accepted n → Filled len n (read_records class wire len spool) (read_table class wire len spool)
+  pub when_refused : (r : Refusal) → read_answer class wire len spool ≡ Err r → read_table class wire len spool ≡ replicate len (pos 0)
+  pub when_accepted : (n : ℕ) → read_answer class wire len spool ≡ Ok n → Filled len n (read_records class wire len spool) (read_table class wire len spool)
 
 -- ── the rewriter ──
 -- "Accepted: zeros after the last byte": n bytes stand in the output, and zeros follow
@@ -76,11 +74,11 @@ pub record Rewrites (len : ℕ) (spool : List ℕ) : Type 0 where
   -- the lent output is as long as it was
   pub size : length (rewrite_output len spool) ≡ len
   -- "Refused: output wholly zero"
-  pub when_refused : (r : Refusal) → rewrite_answer len spool ≡ Refused r → rewrite_output len spool ≡ replicate len 0
-  pub when_accepted : (n : ℕ) → rewrite_answer len spool ≡ Accepted n → Written len n (written spool) (rewrite_output len spool)
+  pub when_refused : (r : Refusal) → rewrite_answer len spool ≡ Err r → rewrite_output len spool ≡ replicate len 0
+  pub when_accepted : (n : ℕ) → rewrite_answer len spool ≡ Ok n → Written len n (written spool) (rewrite_output len spool)
   -- "20 output shorter than the written set": then, and only then (where the reading refuses, nothing is written)
   pub short : (s : Set) → rewrite_outcome spool ≡ accepted s → len < length (written spool) → rewrite_answer len spool ≡ refusal 20 0 0
-  pub only_short : (r : Refusal) → rewrite_answer len spool ≡ Refused r → r.number ≡ 20 → len < length (written spool)
+  pub only_short : (r : Refusal) → rewrite_answer len spool ≡ Err r → r.number ≡ 20 → len < length (written spool)
 
 -- ── demand 1 ──
 pub record DemandOne : Type 0 where

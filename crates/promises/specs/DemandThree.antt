@@ -3,12 +3,10 @@
 -- are marked unread. If the lower refuses, the higher refuses too, at the same line or before it." Document 02: "Demand 3 is read with
 -- both parts, digit by digit; of a wire that the lower class skips whole, the records at its own line stand as said for 0 and those of
 -- later lines are left out of its list".
-use Rattle.std.specs.Prelude.{ℕ, suc, ◌-◌, ◌≤◌, Bool, true, false, cond, ◌&&◌, ◌||◌, not, List, [], ◌∷◌, ◌++◌, map, ◌≡◌, eqb, leb, ltb, ℤ, pos, negsuc, length, get_or, set, take, replicate}
-use Rattle.std.proofs.Math.Option.{some}
+use Rattle.std.specs.Prelude.{ℕ, suc, ◌-◌, ◌≤◌, Bool, true, false, cond, ◌&&◌, ◌||◌, not, List, [], ◌∷◌, ◌++◌, map, ◌≡◌, eqb, leb, ltb, ℤ, pos, negsuc, length, get_or, set, take, replicate, Some, Ok, Err}
 use Rattle.rules.specs.declared.Digits.{Digits}
 use Rattle.rules.specs.declared.Class.{Class}
 use Rattle.rules.specs.declared.Refusal.{Refusal}
-use Rattle.rules.specs.declared.Answer.TheVariants.{Accepted, Refused}
 use Rattle.rules.specs.Base.{has_number}
 use Rattle.rules.specs.RangeClass.{digits, class_of}
 use Rattle.rules.specs.Sets.{Set, range_of, wires_of}
@@ -29,8 +27,8 @@ pub record ClassNotAbove (low high : Class) : Type 0 where
 
 -- two listed classes, by their numbers and wire parts
 pub record Classes (lo lo_wire hi hi_wire : ℕ) (low high : Class) : Type 0 where
-  pub lower : class_of lo lo_wire ≡ some low
-  pub higher : class_of hi hi_wire ≡ some high
+  pub lower : class_of lo lo_wire ≡ Some low
+  pub higher : class_of hi hi_wire ≡ Some high
   pub below : ClassNotAbove low high
 
 -- "1 to 8 or 11 to 18, or 0": the wire part is 0, and "A class with 0 skips whole wires"
@@ -170,7 +168,7 @@ abbrev pub LowerAccepts : Type 0
 LowerAccepts =
     (lo lo_wire hi hi_wire : ℕ) (low high : Class) → Classes lo lo_wire hi hi_wire low high
     → (len : ℕ) (spool : List ℕ) (set : Set) → read_outcome hi hi_wire len spool ≡ accepted set
-    → (read_answer lo lo_wire len spool ≡ Accepted (length (lowered low set (read_records hi hi_wire len spool))))
+    → (read_answer lo lo_wire len spool ≡ Ok (length (lowered low set (read_records hi hi_wire len spool))))
     × (read_records lo lo_wire len spool ≡ lowered low set (read_records hi hi_wire len spool))
 
 -- a place in the set is at or before another
@@ -181,5 +179,5 @@ at_or_before q r = ltb q.volume r.volume || (eqb q.volume r.volume && leb q.line
 abbrev pub HigherRefuses : Type 0
 HigherRefuses =
     (lo lo_wire hi hi_wire : ℕ) (low high : Class) → Classes lo lo_wire hi hi_wire low high
-    → (len : ℕ) (spool : List ℕ) (r : Refusal) → read_answer lo lo_wire len spool ≡ Refused r
-    → (q : Refusal) × (read_answer hi hi_wire len spool ≡ Refused q) × (at_or_before q r ≡ true)
+    → (len : ℕ) (spool : List ℕ) (r : Refusal) → read_answer lo lo_wire len spool ≡ Err r
+    → (q : Refusal) × (read_answer hi hi_wire len spool ≡ Err q) × (at_or_before q r ≡ true)

@@ -1,14 +1,13 @@
 -- Demand 3 is not empty where wires have attributes: one wire with all of them, read at several wire parts, number by number; sets that a
 -- lower class accepts and a higher refuses, and one that the higher refuses at an earlier line.
-use Rattle.std.specs.Prelude.{ℕ, ◌*◌, List, [], ◌∷◌, ◌++◌, map, ◌≡◌, ℤ, pos, replicate}
+use Rattle.std.specs.Prelude.{ℕ, ◌*◌, List, [], ◌∷◌, ◌++◌, map, ◌≡◌, ℤ, pos, replicate, Result, Ok}
 use Prim.Native.String as S
-use Rattle.rules.specs.declared.Answer.{Answer}
-use Rattle.rules.specs.declared.Answer.TheVariants.{Accepted}
 use Rattle.rules.specs.Numbers.{minus}
 use Rattle.rules.specs.RecordTable.{width}
 use Rattle.rules.specs.Answers.{refusal, read_answer, read_records, full_number, full_wire}
 use Rattle.promises.specs.DemandThree.{is_of, filter}
 use Rattle.promises.specs.Witnesses.{one_volume, file_lines, lines_with, other_lines}
+use Rattle.rules.specs.declared.Refusal.{Refusal}
 
 -- ── sets of one wire ──
 -- a layer with one wire of these lines, the first of them number 45, in a file of this E_wire and so many lines
@@ -101,7 +100,7 @@ partners_with serial =
     ++ "EOF" ∷ [])
 
 -- at the classes with and without serials of symbols, with and without those of wires, and without wires
-abbrev pub at_serials : List ℕ → List Answer
+abbrev pub at_serials : List ℕ → List (Result ℕ Refusal)
 at_serials spool =
     read_answer 15 18 (9 * width) spool ∷ read_answer 11 11 (9 * width) spool ∷ read_answer 11 8 (9 * width) spool ∷ read_answer 5 18 (9 * width) spool
     ∷ read_answer 5 8 (9 * width) spool ∷ read_answer 15 0 (9 * width) spool ∷ []
@@ -124,15 +123,15 @@ pub record LowerWitnesses : Type 0 where
   pub none_below : wire_records_at 0 wire408
       ≡ first_numbers 0 (zeros 9) (zeros 4) (zeros 6) (zeros 1) (states 3 3 3 3) 0 3 ∷ second_numbers (zeros 11) (zeros 2) (zeros 3) (zeros 5) (states 3 3 3 0) 3 ∷ []
   -- the line and the arc are left out by 0 alone, and are the same at the others
-  pub counts : map (λ wire. read_answer full_number wire (8 * width) wire418) (full_wire ∷ 5 ∷ 2 ∷ 11 ∷ 1 ∷ 0 ∷ []) ≡ map Accepted (8 ∷ 8 ∷ 8 ∷ 8 ∷ 8 ∷ 6 ∷ [])
+  pub counts : map (λ wire. read_answer full_number wire (8 * width) wire418) (full_wire ∷ 5 ∷ 2 ∷ 11 ∷ 1 ∷ 0 ∷ []) ≡ map Ok (8 ∷ 8 ∷ 8 ∷ 8 ∷ 8 ∷ 6 ∷ [])
   pub edges : map (λ wire. edges_at wire wire418) (full_wire ∷ 1 ∷ 0 ∷ []) ≡ line_and_arc ∷ line_and_arc ∷ [] ∷ []
   -- a class that doesn't know direc doesn't count them; one that refuses may be above one that accepts, not below
   pub too_many : map (λ wire. read_answer full_number wire (6 * width) three_direcs) (full_wire ∷ 2 ∷ 11 ∷ 1 ∷ 0 ∷ [])
-      ≡ refusal 11 1 47 ∷ refusal 11 1 47 ∷ Accepted 6 ∷ Accepted 6 ∷ Accepted 6 ∷ []
+      ≡ refusal 11 1 47 ∷ refusal 11 1 47 ∷ Ok 6 ∷ Ok 6 ∷ Ok 6 ∷ []
   -- "at the same line or before it"
   pub before : map (λ wire. read_answer full_number wire (6 * width) twice_wrong) (full_wire ∷ 7 ∷ 4 ∷ 3 ∷ 0 ∷ [])
-      ≡ refusal 11 1 45 ∷ refusal 11 1 46 ∷ refusal 11 1 46 ∷ Accepted 6 ∷ Accepted 6 ∷ []
+      ≡ refusal 11 1 45 ∷ refusal 11 1 46 ∷ refusal 11 1 46 ∷ Ok 6 ∷ Ok 6 ∷ []
   -- partners are tested where both serials are known; own numbers where either is
-  pub partners : at_serials (partners_with "serial=8,7,9") ≡ refusal 21 1 64 ∷ refusal 21 1 64 ∷ map Accepted (9 ∷ 9 ∷ 9 ∷ 9 ∷ [])
-  pub found : at_serials (partners_with "serial=8,7,8") ≡ map Accepted (9 ∷ 9 ∷ 9 ∷ 9 ∷ 9 ∷ 9 ∷ [])
-  pub twice : at_serials (partners_with "serial=7,7,") ≡ refusal 15 1 60 ∷ refusal 15 1 60 ∷ map Accepted (9 ∷ 9 ∷ 9 ∷ 9 ∷ [])
+  pub partners : at_serials (partners_with "serial=8,7,9") ≡ refusal 21 1 64 ∷ refusal 21 1 64 ∷ map Ok (9 ∷ 9 ∷ 9 ∷ 9 ∷ [])
+  pub found : at_serials (partners_with "serial=8,7,8") ≡ map Ok (9 ∷ 9 ∷ 9 ∷ 9 ∷ 9 ∷ 9 ∷ [])
+  pub twice : at_serials (partners_with "serial=7,7,") ≡ refusal 15 1 60 ∷ refusal 15 1 60 ∷ map Ok (9 ∷ 9 ∷ 9 ∷ 9 ∷ [])

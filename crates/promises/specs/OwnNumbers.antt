@@ -6,9 +6,7 @@
 -- Alone it would hold too where no record showed an own number, and where records showed numbers that were not read. `OwnNumbersShown` shuts
 -- both out: what the records show are the first numbers of the rows `serial` that were read, one after the other, none left out. That these
 -- are the numbers that were written, is said by the reading back of the fixed form (demand 2), and of two sets by `Witnesses`.
-use Rattle.std.specs.Prelude.{ℕ, Bool, cond, ◌&&◌, List, [], ◌∷◌, ◌++◌, map, ◌≡◌, eqb, ℤ, get_or}
-use Rattle.std.proofs.Math.Option.{Option, none, some}
-use Rattle.rules.specs.declared.Answer.TheVariants.{Accepted}
+use Rattle.std.specs.Prelude.{ℕ, Bool, cond, ◌&&◌, List, [], ◌∷◌, ◌++◌, map, ◌≡◌, eqb, ℤ, get_or, Option, Some, None, Ok}
 use Rattle.rules.specs.Base.{flat}
 use Rattle.rules.specs.Values.{Value, empty, nums, chars, linked, amount_at}
 use Rattle.rules.specs.Rows.{part_of}
@@ -60,20 +58,20 @@ figures_in s = flat (map (λ v. flat (map (λ u. u.figures) v.blocks)) s.volumes
 
 -- what was read behind `serial=`: the sixth row of a placed symbol, the tenth of a wire
 abbrev pub serial_row : Figure → Option Value
-serial_row (plain n j v) = none
-serial_row (chain n ps) = none
-serial_row (lettering n s) = none
-serial_row (placed n h) = get_or (part_of h 0) 5 none
-serial_row (wired n w) = get_or w.own 9 none
-serial_row (passed n) = none
+serial_row (plain n j v) = None
+serial_row (chain n ps) = None
+serial_row (lettering n s) = None
+serial_row (placed n h) = get_or (part_of h 0) 5 None
+serial_row (wired n w) = get_or w.own 9 None
+serial_row (passed n) = None
 
 -- the first number there
 abbrev pub first_of : Option Value → List ℕ
-first_of none = []
-first_of (some empty) = []
-first_of (some (nums v)) = amount_at (nums v) 0 ∷ []
-first_of (some (chars at c)) = []
-first_of (some (linked n ps)) = n ∷ []
+first_of None = []
+first_of (Some empty) = []
+first_of (Some (nums v)) = amount_at (nums v) 0 ∷ []
+first_of (Some (chars at c)) = []
+first_of (Some (linked n ps)) = n ∷ []
 
 -- a symbol or wire that was read with a serial shows its number, and no record shows another
 abbrev pub OwnNumbersShown : Type 0
@@ -91,4 +89,4 @@ OwnNumbersDiffer = (class wire len : ℕ) (spool : List ℕ) → NoneTwice (read
 
 -- of a call of the reader, of which nothing is known but what its contract says: the records that stand in the table
 abbrev pub CallNumbersDiffer : Type 0
-CallNumbersDiffer = (c : Call) (n : ℕ) → c.answer ≡ Accepted n → NoneTwice (first_records n c.after)
+CallNumbersDiffer = (c : Call) (n : ℕ) → c.answer ≡ Ok n → NoneTwice (first_records n c.after)

@@ -6,9 +6,7 @@
 -- When partners are tested is said here again, in numbers: a definition that never tested them, or tested them against fewer own numbers than
 -- records show, would not keep this. A reader that forgot a partner would: against that stand `WirePartnersShown`, the reading back of the
 -- fixed form (demand 2), and `Witnesses`.
-use Rattle.std.specs.Prelude.{ℕ, suc, ◌/◌, ◌%◌, Bool, true, cond, ◌&&◌, List, [], ◌∷◌, ◌++◌, map, ◌≡◌, eqb, leb, ℤ, length}
-use Rattle.std.proofs.Math.Option.{Option, none, some}
-use Rattle.rules.specs.declared.Answer.TheVariants.{Accepted}
+use Rattle.std.specs.Prelude.{ℕ, suc, ◌/◌, ◌%◌, Bool, true, cond, ◌&&◌, List, [], ◌∷◌, ◌++◌, map, ◌≡◌, eqb, leb, ℤ, length, Option, Some, None, Ok}
 use Rattle.rules.specs.Base.{flat, has_number}
 use Rattle.rules.specs.Values.{Num, Value, empty, nums, chars, linked, amount_at}
 use Rattle.rules.specs.Rows.{part_of, number_of}
@@ -37,11 +35,11 @@ abbrev pub given_at : List Num → ℕ → List ℕ
 given_at v i = cond (eqb (amount_at (nums v) i) 2) (amount_at (nums v) (suc i) ∷ []) []
 
 abbrev pub partners_of : Option Value → List ℕ
-partners_of none = []
-partners_of (some empty) = []
-partners_of (some (nums v)) = given_at v 1 ++ given_at v 3
-partners_of (some (chars at c)) = []
-partners_of (some (linked n ps)) = ps
+partners_of None = []
+partners_of (Some empty) = []
+partners_of (Some (nums v)) = given_at v 1 ++ given_at v 3
+partners_of (Some (chars at c)) = []
+partners_of (Some (linked n ps)) = ps
 
 -- ── those that records show: a wire's start and end, at 22 and 23, 24 and 25 of its second record ──
 abbrev pub end_at : List ℤ → ℕ → List ℕ
@@ -80,4 +78,4 @@ pub record CallFound (c : Call) (n : ℕ) : Type 0 where
   pub found : tested c.class c.wire set ≡ true → Found set (first_records n c.after)
 
 abbrev pub CallPartnersFound : Type 0
-CallPartnersFound = (c : Call) (n : ℕ) → c.answer ≡ Accepted n → CallFound c n
+CallPartnersFound = (c : Call) (n : ℕ) → c.answer ≡ Ok n → CallFound c n

@@ -1,8 +1,7 @@
 -- What the programs print of a reading. Document 01, "What the base reads": "prints one line `answer volume line records` in decimal, single spaces, newline at the
 -- end; if accepted, one line of 32 numbers per record follows". `Answers: printed` says it of the definitions' records; the programs have the
 -- answer and the lent table.
-use Rattle.std.specs.Prelude.{ℕ, ◌*◌, List, [], ◌∷◌, ◌++◌, map, ◌≡◌, ℤ, pos, negsuc}
-use Rattle.rules.specs.declared.Answer.TheVariants.{Accepted}
+use Rattle.std.specs.Prelude.{ℕ, ◌*◌, List, [], ◌∷◌, ◌++◌, map, ◌≡◌, ℤ, pos, negsuc, Ok}
 use Rattle.rules.specs.Base.{bytes, flat}
 use Rattle.rules.specs.RecordTable.{width}
 use Rattle.rules.specs.Answers.{answer_count, refusal, read_records, read_answer, read_table, full_number, full_wire, own_records, print_line, first_line, printed}
@@ -36,5 +35,5 @@ ended s = s ++ 10 ∷ []
 pub record SamplesPrint : Type 0 where
   pub empty : printed [] ≡ ended (bytes "2 0 0 0")
   pub refused : print_line (first_line (refusal 15 1 61)) ≡ ended (bytes "15 1 61 0")
-  pub accepted : print_line (first_line (Accepted 9)) ≡ ended (bytes "0 0 0 9")
+  pub accepted : print_line (first_line (Ok 9)) ≡ ended (bytes "0 0 0 9")
   pub numbers : print_line (pos 12 ∷ negsuc 154999 ∷ pos 0 ∷ []) ≡ ended (bytes "12 -155000 0")

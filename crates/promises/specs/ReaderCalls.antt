@@ -1,9 +1,7 @@
 -- Demand 3 of the reader itself: two calls of it, of which nothing is known but what its contract says.
-use Rattle.std.specs.Prelude.{ℕ, ◌*◌, ◌-◌, true, List, ◌++◌, ◌≡◌, ℤ, pos, length, replicate}
+use Rattle.std.specs.Prelude.{ℕ, ◌*◌, ◌-◌, true, List, ◌++◌, ◌≡◌, ℤ, pos, length, replicate, Result, Ok, Err}
 use Rattle.rules.specs.declared.Class.{Class}
 use Rattle.rules.specs.declared.Refusal.{Refusal}
-use Rattle.rules.specs.declared.Answer.{Answer}
-use Rattle.rules.specs.declared.Answer.TheVariants.{Accepted, Refused}
 use Rattle.rules.specs.Base.{flat}
 use Rattle.rules.specs.Sets.{Set}
 use Rattle.rules.specs.LineByLine.{accepted}
@@ -19,7 +17,7 @@ pub record Call : Type 0 where
   pub class : ℕ
   pub wire : ℕ
   pub before : List ℤ
-  pub answer : Answer
+  pub answer : Result ℕ Refusal
   pub after : List ℤ
   pub answers : answer ≡ read_answer class wire (length before) spool
   pub fills : after ≡ read_table class wire (length before) spool
@@ -45,18 +43,18 @@ pub record Accepts (lower higher : Call) (low : Class) (n : ℕ) : Type 0 where
   pub reads : read_outcome higher.class higher.wire (length higher.before) higher.spool ≡ accepted set
   pub count : ℕ
   pub counts : count ≡ length (lowered low set (first_records n higher.after))
-  pub answer : lower.answer ≡ Accepted count
+  pub answer : lower.answer ≡ Ok count
   pub table : lower.after ≡ laid (length higher.after) (lowered low set (first_records n higher.after))
 
 abbrev pub LowerCallAccepts : Type 0
-LowerCallAccepts = (lower higher : Call) (two : TwoCalls lower higher) (n : ℕ) → higher.answer ≡ Accepted n → Accepts lower higher two.low n
+LowerCallAccepts = (lower higher : Call) (two : TwoCalls lower higher) (n : ℕ) → higher.answer ≡ Ok n → Accepts lower higher two.low n
 
 -- "the higher refuses too, at the same line or before it"; neither leaves anything in its table
 pub record Refuses (lower higher : Call) (r : Refusal) : Type 0 where
   pub refusal : Refusal
-  pub answer : higher.answer ≡ Refused refusal
+  pub answer : higher.answer ≡ Err refusal
   pub place : at_or_before refusal r ≡ true
   pub table : higher.after ≡ lower.after
 
 abbrev pub HigherCallRefuses : Type 0
-HigherCallRefuses = (lower higher : Call) → TwoCalls lower higher → (r : Refusal) → lower.answer ≡ Refused r → Refuses lower higher r
+HigherCallRefuses = (lower higher : Call) → TwoCalls lower higher → (r : Refusal) → lower.answer ≡ Err r → Refuses lower higher r

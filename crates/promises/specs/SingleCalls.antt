@@ -1,7 +1,6 @@
 -- Promise 1, and what is accepted, of the reader and the rewriter themselves: one call, of which nothing is known but what its contract says.
-use Rattle.std.specs.Prelude.{ℕ, ◌*◌, ◌≤◌, ◌<◌, map, ◌≡◌, pos, length, replicate}
+use Rattle.std.specs.Prelude.{ℕ, ◌*◌, ◌≤◌, ◌<◌, map, ◌≡◌, pos, length, replicate, Ok, Err}
 use Rattle.rules.specs.declared.Refusal.{Refusal}
-use Rattle.rules.specs.declared.Answer.TheVariants.{Accepted, Refused}
 use Rattle.rules.specs.Sets.{Set}
 use Rattle.rules.specs.LineByLine.{accepted, refused}
 use Rattle.rules.specs.RecordTable.{width}
@@ -21,11 +20,11 @@ pub record CallAccepts (c : Call) (n : ℕ) : Type 0 where
 pub record ReadCall (c : Call) : Type 0 where
   pub answer : Answered by_reader c.answer
   pub size : length c.after ≡ length c.before
-  pub when_refused : (r : Refusal) → c.answer ≡ Refused r → c.after ≡ replicate (length c.before) (pos 0)
-  pub when_accepted : (n : ℕ) → c.answer ≡ Accepted n → CallAccepts c n
+  pub when_refused : (r : Refusal) → c.answer ≡ Err r → c.after ≡ replicate (length c.before) (pos 0)
+  pub when_accepted : (n : ℕ) → c.answer ≡ Ok n → CallAccepts c n
   -- a spool that keeps the rules: accepted where its records fit, and else 19 at the line of the first that does not
   pub when_kept : (s : Set) → ruled c.class c.wire c.spool ≡ accepted s → length (records_at c.class c.wire s) * width ≤ length c.before
-      → c.answer ≡ Accepted (length (records_at c.class c.wire s))
+      → c.answer ≡ Ok (length (records_at c.class c.wire s))
   pub when_full : (s : Set) → ruled c.class c.wire c.spool ≡ accepted s → length c.before < length (records_at c.class c.wire s) * width
       → c.answer ≡ no_room (first_out (length c.before) (map place_of (records_at c.class c.wire s)))
 
@@ -36,11 +35,11 @@ ReadCalls = (c : Call) → ReadCall c
 pub record RewriteCall (w : Rewriting) : Type 0 where
   pub answer : Answered by_rewriter w.answer
   pub size : length w.after ≡ length w.before
-  pub when_refused : (r : Refusal) → w.answer ≡ Refused r → w.after ≡ replicate (length w.before) 0
-  pub when_accepted : (n : ℕ) → w.answer ≡ Accepted n → Written (length w.before) n (written w.spool) w.after
+  pub when_refused : (r : Refusal) → w.answer ≡ Err r → w.after ≡ replicate (length w.before) 0
+  pub when_accepted : (n : ℕ) → w.answer ≡ Ok n → Written (length w.before) n (written w.spool) w.after
   -- a spool that keeps the rules of class 15 with wire part 18: accepted where its fixed form fits, and else 20; one that breaks a rule: that rule
   pub when_kept : (s : Set) → ruled full_number full_wire w.spool ≡ accepted s → length (written w.spool) ≤ length w.before
-      → w.answer ≡ Accepted (length (written w.spool))
+      → w.answer ≡ Ok (length (written w.spool))
   pub when_short : (s : Set) → ruled full_number full_wire w.spool ≡ accepted s → length w.before < length (written w.spool) → w.answer ≡ refusal 20 0 0
   pub when_broken : (number volume line : ℕ) → ruled full_number full_wire w.spool ≡ refused number volume line → w.answer ≡ refusal number volume line
 

@@ -1,5 +1,5 @@
 -- What the records point at is what the set keeps, and so what the fixed form writes: record by record, the texts of a set.
-use Rattle.std.specs.Prelude.{ℕ, ◌+◌, true, false, Bool, cond, List, [], ◌∷◌, ◌++◌, map, ◌≡◌, ℤ, length}
+use Rattle.std.specs.Prelude.{ℕ, ◌+◌, true, false, Bool, cond, List, [], ◌∷◌, ◌++◌, map, ◌≡◌, ℤ, length, Ok}
 use Prim.Native.String as S
 use Rattle.rules.specs.Base.{flat}
 use Rattle.rules.specs.Values.{chars_of}
@@ -9,7 +9,6 @@ use Rattle.rules.specs.Figures.{text_table, placed_table, wire_table, wire_text_
 use Rattle.rules.specs.Sets.{Point, Figure, plain, chain, lettering, placed, Layer, Drawing, Symbol, LayerBlock, Contents, Set, symbol_name_of, Edge, Wire, wired, passed}
 use Rattle.rules.specs.LineByLine.{accepted}
 use Rattle.rules.specs.RecordTable.{kind_wire_more, first_text}
-use Rattle.rules.specs.declared.Answer.TheVariants.{Accepted}
 use Rattle.rules.specs.Answers.{read_outcome, read_records}
 use Rattle.promises.specs.PlacesApart.{text_places}
 use Rattle.promises.specs.TableTexts.{first_records, Shows, ShowTexts}
@@ -145,4 +144,4 @@ pub record Points (call : Call) (n : ℕ) : Type 0 where
   pub wires : WiresStand call.spool (texts_of_wires set)
 
 abbrev pub CallTexts : Type 0
-CallTexts = (call : Call) (n : ℕ) → call.answer ≡ Accepted n → Points call n
+CallTexts = (call : Call) (n : ℕ) → call.answer ≡ Ok n → Points call n

@@ -2,16 +2,14 @@
 -- .. Arcs still need seven". Said of the records of an accepted set, each by the line that it came from: the line of the spool that its
 -- volume and its line number name. The numbers stand here again, and not by the names that the definitions have for them: a definition that
 -- took another kind, place or number would not keep this.
-use Rattle.std.specs.Prelude.{ℕ, suc, ◌+◌, ◌≤◌, Bool, true, false, cond, List, [], ◌∷◌, ◌++◌, ◌≡◌, eqb, ℤ, pos, negsuc, length, get_or}
+use Rattle.std.specs.Prelude.{ℕ, suc, ◌+◌, ◌≤◌, Bool, true, false, cond, List, [], ◌∷◌, ◌++◌, ◌≡◌, eqb, ℤ, pos, negsuc, length, get_or, Some, Ok}
 use Prim.Native.String as S
-use Rattle.std.proofs.Math.Option.{some}
 use Rattle.rules.specs.Base.{bytes, has_number, split}
 use Rattle.rules.specs.Spool.{Volume, volumes_of, lines_of}
 use Rattle.rules.specs.Lines.{unindent}
 use Rattle.rules.specs.Numbers.{read_fixed, read_decimal}
 use Rattle.rules.specs.Sets.{Set}
 use Rattle.rules.specs.LineByLine.{accepted}
-use Rattle.rules.specs.declared.Answer.TheVariants.{Accepted}
 use Rattle.rules.specs.Answers.{read_outcome, read_records}
 use Rattle.promises.specs.PlacesApart.{kind_of}
 use Rattle.promises.specs.ReaderCalls.{Call}
@@ -26,13 +24,13 @@ pub data Item {A : Type 0} : List A → ℕ → A → Type 0 where
 -- "2 volume from 1, 3 line": what stands in that line of that volume, without the blanks before it
 pub record OwnLine (spool : List ℕ) (r : List ℤ) (text : List ℕ) : Type 0 where
   pub volumes : List Volume
-  pub found : volumes_of spool ≡ some volumes
+  pub found : volumes_of spool ≡ Some volumes
   pub number : ℕ
   pub shown : number_at r 2 ≡ pos number
   pub volume : Volume
   pub there : Item volumes number volume
   pub lines : List (List ℕ)
-  pub cut : lines_of volume.body ≡ some lines
+  pub cut : lines_of volume.body ≡ Some lines
   pub line_number : ℕ
   pub line_shown : number_at r 3 ≡ pos line_number
   pub line : List ℕ
@@ -52,9 +50,9 @@ value_in c i = get_or (split 44 c) i []
 -- "type,cx,cy,radius,start,end" from place 4 on, each as it is written
 pub record ShowsValues (r : List ℤ) (c : List ℕ) : Type 0 where
   pub type : ℕ
-  pub type_written : read_fixed 4 (value_in c 0) ≡ some type
+  pub type_written : read_fixed 4 (value_in c 0) ≡ Some type
   pub type_shown : number_at r 4 ≡ pos type
-  pub decimals : (i : ℕ) → i ≤ 4 → read_decimal (value_in c (suc i)) ≡ some (number_at r (5 + i))
+  pub decimals : (i : ℕ) → i ≤ 4 → read_decimal (value_in c (suc i)) ≡ Some (number_at r (5 + i))
 
 -- six values: from 0 to 360, and no turn
 pub record Six (r : List ℤ) (c : List ℕ) : Type 0 where
@@ -117,4 +115,4 @@ Turns = (class wire len : ℕ) (spool : List ℕ) (s : Set) → read_outcome cla
 
 -- the same of a call of the reader that is accepted with n records: the first n of its table, and the spool that was lent
 abbrev pub CallTurns : Type 0
-CallTurns = (call : Call) (n : ℕ) → call.answer ≡ Accepted n → AtTheirLines call.spool (first_records n call.after)
+CallTurns = (call : Call) (n : ℕ) → call.answer ≡ Ok n → AtTheirLines call.spool (first_records n call.after)

@@ -1,8 +1,7 @@
 -- The wire part of a class where there is no wire. Document 02: "The class gets a wire part of the same two digits, 1 to 8 or 11 to 18, or
 -- 0", and "A class with 0 skips whole wires where the file's E_wire isn't 000". Where it is 000 no wire stands, so that any two wire parts
 -- give the same: the answer, the records, the table. This is said of accepted sets and of refused spools alike.
-use Rattle.std.specs.Prelude.{ℕ, ◌/◌, true, List, [], ◌∷◌, ◌≡◌}
-use Rattle.std.proofs.Math.Option.{Option, none, some}
+use Rattle.std.specs.Prelude.{ℕ, ◌/◌, true, List, [], ◌∷◌, ◌≡◌, Option, Some, None}
 use Rattle.rules.specs.declared.Class.{Class}
 use Rattle.rules.specs.RefusalNumbers.{Got, got, bad}
 use Rattle.rules.specs.Spool.{Volume, volumes_of}
@@ -27,12 +26,12 @@ set_of_lines e (listed ls) = read_up_to e (top nothing_yet 0) ls
 set_of_lines e (no_lines v) = nothing_yet
 
 abbrev pub set_of_volumes : Env → Option (List Volume) → Set
-set_of_volumes e none = nothing_yet
-set_of_volumes e (some vs) = set_of_lines e (list_volumes 1 vs)
+set_of_volumes e None = nothing_yet
+set_of_volumes e (Some vs) = set_of_lines e (list_volumes 1 vs)
 
 abbrev pub set_at : Option Class → ℕ → List ℕ → Set
-set_at none m spool = nothing_yet
-set_at (some c) m spool = set_of_volumes (record { class = c; limit = some m }) (volumes_of spool)
+set_at None m spool = nothing_yet
+set_at (Some c) m spool = set_of_volumes (record { class = c; limit = Some m }) (volumes_of spool)
 
 -- of a spool, by the reader
 abbrev pub set_read : ℕ → ℕ → ℕ → List ℕ → Set

@@ -2,8 +2,7 @@
 -- values between two lines, and recorded as untested where an arc takes part." Said of the records of an accepted set: which of them are a
 -- wire's, and how each of its lines and arcs is joined to the one before it. The numbers stand here again, and not by the names that the
 -- definitions have for them: a definition that took another digit or another place would not keep this.
-use Rattle.std.specs.Prelude.{ℕ, zero, suc, ◌/◌, Bool, true, false, cond, ◌&&◌, ◌||◌, not, List, [], ◌∷◌, ◌++◌, map, ◌≡◌, eqb, ℤ, pos, length}
-use Rattle.std.proofs.Math.Option.{Option, none, some}
+use Rattle.std.specs.Prelude.{ℕ, zero, suc, ◌/◌, Bool, true, false, cond, ◌&&◌, ◌||◌, not, List, [], ◌∷◌, ◌++◌, map, ◌≡◌, eqb, ℤ, pos, length, Option, Some, None}
 use Rattle.rules.specs.Base.{flat, within}
 use Rattle.rules.specs.Values.{Num, value_at}
 use Rattle.rules.specs.Rows.{part_of, number_of}
@@ -39,8 +38,8 @@ Tested false former r = join_in r ≡ pos 2
 -- where ends are joined; the first of a wire is joined to none
 abbrev pub JoinedTo : Bool → Option (List ℤ) → List ℤ → Type 0
 JoinedTo false former r = join_in r ≡ pos 0
-JoinedTo true none r = join_in r ≡ pos 0
-JoinedTo true (some former) r = Tested (is_line former && is_line r) former r
+JoinedTo true None r = join_in r ≡ pos 0
+JoinedTo true (Some former) r = Tested (is_line former && is_line r) former r
 
 -- behind the one before it, in the layer and the volume of its wire
 pub record Element (ends : Bool) (own : List ℤ) (former : Option (List ℤ)) (r : List ℤ) : Type 0 where
@@ -51,7 +50,7 @@ pub record Element (ends : Bool) (own : List ℤ) (former : Option (List ℤ)) (
 
 abbrev pub Elements : Bool → List ℤ → Option (List ℤ) → List (List ℤ) → Type 0
 Elements ends own former [] = Unit {0}
-Elements ends own former (r ∷ rs) = Element ends own former r × Elements ends own (some r) rs
+Elements ends own former (r ∷ rs) = Element ends own former r × Elements ends own (Some r) rs
 
 -- ── one wire: its own two records, and its elements behind them ──
 abbrev pub OwnKinds : List ℤ → List ℤ → Type 0
@@ -65,7 +64,7 @@ pub record WireRead (digit : ℕ) (own more : List ℤ) (elements : List (List �
   pub unmarked : OwnMarks (pos 0) own more
   pub count : number_at own 5 ≡ pos (length elements)
   pub first : number_at own 30 ≡ pos digit
-  pub joined : Elements (eqb digit 4) own none elements
+  pub joined : Elements (eqb digit 4) own None elements
 
 pub record WireSkipped (own more : List ℤ) : Type 0 where
   pub kinds : OwnKinds own more

@@ -1,8 +1,6 @@
 -- The promises are not empty: a small set, written line by line, that every class accepts, and what it takes for it to be refused.
-use Rattle.std.specs.Prelude.{ℕ, ◌*◌, ◌-◌, List, [], ◌∷◌, ◌++◌, map, ◌≡◌, length, take, drop, Bool, true, false, cond, eqb, ℤ, pos}
+use Rattle.std.specs.Prelude.{ℕ, ◌*◌, ◌-◌, List, [], ◌∷◌, ◌++◌, map, ◌≡◌, length, take, drop, Bool, true, false, cond, eqb, ℤ, pos, Result, Ok}
 use Prim.Native.String as S
-use Rattle.rules.specs.declared.Answer.{Answer}
-use Rattle.rules.specs.declared.Answer.TheVariants.{Accepted}
 use Rattle.rules.specs.Base.{bytes, flat}
 use Rattle.rules.specs.Spool.{unlines, volume_bytes}
 use Rattle.rules.specs.RecordTable.{width}
@@ -13,6 +11,7 @@ use Rattle.promises.specs.OwnNumbers.{own_numbers}
 use Rattle.promises.specs.Partners.{tested, ends_of}
 use Rattle.promises.specs.WiresJoined.{element_in}
 use Rattle.promises.specs.TableTexts.{number_at}
+use Rattle.rules.specs.declared.Refusal.{Refusal}
 
 -- "1 to 5 or 11 to 15"
 abbrev pub classes : List ℕ
@@ -126,7 +125,7 @@ linked = linked_with "serial=7,8" "serial=08,7,"
 abbrev pub parts : List (ℕ × ℕ)
 parts = (15, 18) ∷ (11, 11) ∷ (15, 8) ∷ (5, 18) ∷ (15, 0) ∷ []
 
-abbrev pub answers_to : List ℕ → List Answer
+abbrev pub answers_to : List ℕ → List (Result ℕ Refusal)
 answers_to spool = map (λ p. read_answer p.0 p.1 (10 * width) spool) parts
 
 abbrev pub shown_at : (List (List ℤ) → List ℕ) → List ℕ → List (List ℕ)
@@ -137,8 +136,8 @@ tested_in class wire (refused n v l) = false
 tested_in class wire (accepted s) = tested class wire s
 
 -- where a partner is missing: only the first two know serials of both; a class that skips the wire has one record less
-abbrev pub tested_by : Answer → List Answer
-tested_by a = a ∷ a ∷ Accepted 10 ∷ Accepted 10 ∷ Accepted 9 ∷ []
+abbrev pub tested_by : Result ℕ Refusal → List (Result ℕ Refusal)
+tested_by a = a ∷ a ∷ Ok 10 ∷ Ok 10 ∷ Ok 9 ∷ []
 
 -- a class with 0 keeps the wire's own two records alone
 abbrev pub records_with : ℕ → ℕ
@@ -146,13 +145,13 @@ records_with wire = cond (eqb wire 0) 6 9
 
 pub record Witnesses : Type 0 where
   -- its three records fit a table of 96 numbers: accepted at each of the ten classes with each of the 17 wire parts, by the check too
-  pub accepted : at_each (λ class wire. read_answer class wire (3 * width) small) ≡ at_each (λ _ _. Accepted 3)
+  pub accepted : at_each (λ class wire. read_answer class wire (3 * width) small) ≡ at_each (λ _ _. Ok 3)
   pub checked : at_each (λ class wire. check_answer class wire small) ≡ at_each (λ _ _. 0)
   -- the third, the drawing's, does not fit a table of 95
   pub full : read_answer full_number full_wire (3 * width - 1) small ≡ refusal 19 1 23
   -- it is in the fixed form; an output one byte shorter is too short
   pub fixed : written small ≡ small
-  pub rewritten : rewrite_answer (length small) small ≡ Accepted (length small)
+  pub rewritten : rewrite_answer (length small) small ≡ Ok (length small)
   pub short : rewrite_answer (length small - 1) small ≡ refusal 20 0 0
   -- without EOF its volume ends early, without its last byte its length is wrong; class 6 is none, nor is wire part 9, 10, 19 or 20
   pub no_eof : read_answer full_number full_wire (3 * width) cut ≡ refusal 9 1 37
@@ -160,22 +159,22 @@ pub record Witnesses : Type 0 where
   pub no_class : read_answer 6 full_wire (3 * width) small ≡ refusal 1 0 0
   pub no_wire_part : map (λ wire. read_answer full_number wire (3 * width) small) no_wire_parts ≡ map (λ _. refusal 1 0 0) no_wire_parts
   -- a wire is read with every wire part but 0, which skips it, and accepted where its lines meet; it is in the fixed form
-  pub wires : map (λ wire. read_answer full_number wire (9 * width) (wired_with joined_line)) wire_parts ≡ map (λ wire. Accepted (records_with wire)) wire_parts
+  pub wires : map (λ wire. read_answer full_number wire (9 * width) (wired_with joined_line)) wire_parts ≡ map (λ wire. Ok (records_with wire)) wire_parts
   pub wires_fixed : written (wired_with joined_line) ≡ wired_with joined_line
   -- its first line is joined to none, the second was tested, the arc was not
   pub joins : map (λ r. number_at r 11) (drop 6 (read_records full_number full_wire (9 * width) (wired_with joined_line))) ≡ pos 0 ∷ pos 1 ∷ pos 2 ∷ []
   -- where they do not meet it is 11 at the later line, but for the class that skips it
   pub apart : map (λ wire. read_answer full_number wire (9 * width) (wired_with apart_line)) wire_parts
-      ≡ map (λ wire. cond (eqb wire 0) (Accepted 6) (refusal 11 1 46)) wire_parts
+      ≡ map (λ wire. cond (eqb wire 0) (Ok 6) (refusal 11 1 46)) wire_parts
   -- "an opener directly in the wire's block has depth 1" where it is skipped, and 4 is the most
-  pub deep : read_answer full_number 0 (6 * width) (wired_of four_deep) ≡ Accepted 6
+  pub deep : read_answer full_number 0 (6 * width) (wired_of four_deep) ≡ Ok 6
   pub too_deep : read_answer full_number 0 (6 * width) (wired_of five_deep) ≡ refusal 18 1 49
   -- own numbers are shown as they were written, at a class that knows them; one that was used is 15, as a number, and a partner's is none
   pub serials : map (λ class. field_own class (serials_with "serial=08,7")) (11 ∷ 15 ∷ 5 ∷ []) ≡ (7 ∷ 8 ∷ []) ∷ (7 ∷ 8 ∷ []) ∷ [] ∷ []
-  pub serials_taken : read_answer full_number full_wire (8 * width) (serials_with "serial=08,7") ≡ Accepted 8
+  pub serials_taken : read_answer full_number full_wire (8 * width) (serials_with "serial=08,7") ≡ Ok 8
   pub serial_twice : read_answer full_number full_wire (8 * width) (serials_with "serial=007") ≡ refusal 15 1 61
   -- a wire's own number and its partner are shown where the wire part knows them, a symbol's own number where the class knows it
-  pub linked_taken : answers_to linked ≡ tested_by (Accepted 10)
+  pub linked_taken : answers_to linked ≡ tested_by (Ok 10)
   pub linked_own : shown_at own_numbers linked ≡ (7 ∷ 8 ∷ []) ∷ (7 ∷ 8 ∷ []) ∷ (7 ∷ []) ∷ (8 ∷ []) ∷ (7 ∷ []) ∷ []
   pub linked_ends : shown_at (λ rs. flat (map ends_of rs)) linked ≡ (7 ∷ []) ∷ (7 ∷ []) ∷ [] ∷ (7 ∷ []) ∷ [] ∷ []
   pub linked_tests : map (λ p. tested_in p.0 p.1 (read_outcome p.0 p.1 (10 * width) linked)) parts ≡ true ∷ true ∷ false ∷ false ∷ false ∷ []

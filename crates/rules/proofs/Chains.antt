@@ -1,8 +1,8 @@
 -- Laws of chains of tests: taking them apart, and moving a function through them. Each is said once, here.
+use Rattle.std.specs.Prelude.{Option, Some, None}
 use Prim.Native.Nat.{ℕ, zero, suc, ◌+◌}
 use mathlib.Core.Bool.{Bool, true, false, cond, ◌&&◌, ◌||◌, true≢false}
 use mathlib.Core.List.{List, [], ◌∷◌, ◌++◌, map, append_assoc}
-use mathlib.Core.Option.{Option, none, some}
 use mathlib.Core.Path.{◌≡◌, refl, sym, ◌∙◌, ap}
 use native.Mathlib.Omega.{arith}
 use lib.Dec.{eqb}
@@ -71,16 +71,16 @@ same_refl (b ∷ k) = rw (eq-eqb b b refl, same_refl k)
 pub never : {A : Type 0} {P : Type 0} {n : ℕ} {a : A} → bad n ≡ got a → P
 never e = absurd (let z : ◌≡◌ {A = ℕ} 0 1 = cc in omega arith)
 
-pub none-some : {A : Type 0} {P : Type 0} {a : A} → none ≡ some a → P
+pub none-some : {A : Type 0} {P : Type 0} {a : A} → None ≡ Some a → P
 none-some e = absurd (let z : ◌≡◌ {A = ℕ} 0 1 = cc in omega arith)
 
-pub cond-some : {A : Type 0} (t : Bool) (x y : A) → cond t (some x) none ≡ some y → (t ≡ true) × (x ≡ y)
+pub cond-some : {A : Type 0} (t : Bool) (x y : A) → cond t (Some x) None ≡ Some y → (t ≡ true) × (x ≡ y)
 cond-some true x y e = (refl, cc)
 cond-some false x y e = none-some e
 
-pub map-some : {A B : Type 0} (f : A → B) (o : Option A) (b : B) → map_o f o ≡ some b → (a : A) × (o ≡ some a) × (f a ≡ b)
-map-some f none b e = none-some e
-map-some f (some a) b e = (a, refl, cc)
+pub map-some : {A B : Type 0} (f : A → B) (o : Option A) (b : B) → map_o f o ≡ Some b → (a : A) × (o ≡ Some a) × (f a ≡ b)
+map-some f None b e = none-some e
+map-some f (Some a) b e = (a, refl, cc)
 
 pub unless-got : {A : Type 0} (t : Bool) (n : ℕ) (g : Got A) (a : A) → unless t n g ≡ got a → (t ≡ true) × (g ≡ got a)
 unless-got true n g a e = (refl, e)
@@ -98,9 +98,9 @@ pub keep-got : {A : Type 0} (n : ℕ) (p : A → Bool) (g : Got A) (a : A) → k
 keep-got n p (got b) a e = let u = unless-got (p b) n (got b) a e in let q : b ≡ a = cc in (u.1, rw q at u.0)
 keep-got n p (bad m) a e = never e
 
-pub or-got : {A : Type 0} (n : ℕ) (o : Option A) (a : A) → or_bad n o ≡ got a → o ≡ some a
-or-got n none a e = never e
-or-got n (some b) a e = cc
+pub or-got : {A : Type 0} (n : ℕ) (o : Option A) (a : A) → or_bad n o ≡ got a → o ≡ Some a
+or-got n None a e = never e
+or-got n (Some b) a e = cc
 
 pub cons-got : {A : Type 0} (g : Got A) (h : Got (List A)) (v : List A) → cons_g g h ≡ got v → (a : A) × (s : List A) × (g ≡ got a) × (h ≡ got s) × (a ∷ s ≡ v)
 cons-got (got a) (got s) v e = (a, s, refl, refl, cc)

@@ -1,8 +1,7 @@
 -- Small tools: choice, bytes of a text, tests on byte lists, cutting and joining.
-use Rattle.std.specs.Prelude.{ℕ, suc, ◌+◌, Bool, true, false, cond, ◌&&◌, ◌||◌, not, List, [], ◌∷◌, ◌++◌, eqb, leb}
+use Rattle.std.specs.Prelude.{ℕ, suc, ◌+◌, Bool, true, false, cond, ◌&&◌, ◌||◌, not, List, [], ◌∷◌, ◌++◌, eqb, leb, Option, Some, None}
 use Prim.Native.Char.{code}
 use Prim.Native.String as S
-use Rattle.std.proofs.Math.Option.{Option, none, some}
 
 -- `cond`, where only the branch taken is to be computed (recursive calls)
 abbrev pub choose : {A : Type 0} → Bool → (Unit {0} → A) → (Unit {0} → A) → A
@@ -15,12 +14,12 @@ bytes S.[] = []
 bytes (S.◌∷◌ c s) = code c ∷ bytes s
 
 abbrev pub map_o : {A B : Type 0} → (A → B) → Option A → Option B
-map_o f none = none
-map_o f (some a) = some (f a)
+map_o f None = None
+map_o f (Some a) = Some (f a)
 
 abbrev pub is_none : {A : Type 0} → Option A → Bool
-is_none none = true
-is_none (some a) = false
+is_none None = true
+is_none (Some a) = false
 
 abbrev pub is_some : {A : Type 0} → Option A → Bool
 is_some o = not (is_none o)
@@ -51,8 +50,8 @@ same (a ∷ u) (b ∷ bs) = eqb a b && same u bs
 
 -- the place of a byte string among others, the first where it stands
 abbrev pub index_of : List ℕ → List (List ℕ) → Option ℕ
-index_of k [] = none
-index_of k (u ∷ us) = cond (same k u) (some 0) (map_o suc (index_of k us))
+index_of k [] = None
+index_of k (u ∷ us) = cond (same k u) (Some 0) (map_o suc (index_of k us))
 
 -- a byte string is one of these
 abbrev pub among : List ℕ → List (List ℕ) → Bool

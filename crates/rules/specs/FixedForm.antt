@@ -1,7 +1,6 @@
 -- Document 01, "Fixed form": a set written back, line by line. "no comments, blanks or empty lines; keys in the order above".
 -- Each function takes the lines that follow what it writes.
-use Rattle.std.specs.Prelude.{ℕ, zero, suc, Bool, true, false, cond, List, [], ◌∷◌, ◌++◌, eqb, get_or}
-use Rattle.std.proofs.Math.Option.{Option, none, some}
+use Rattle.std.specs.Prelude.{ℕ, zero, suc, Bool, true, false, cond, List, [], ◌∷◌, ◌++◌, eqb, get_or, Option, Some, None}
 use Rattle.rules.specs.Base.{bytes, is_nil}
 use Rattle.rules.specs.Spool.{unlines, volume_bytes}
 use Rattle.rules.specs.Values.{Num, Value, nums, Known, Kind, values, text, word, volume_name, sheet, ratio, serials, wire_serial, symbol_circle, nothing, opens, headed, either}
@@ -63,8 +62,8 @@ abbrev pub show_value : Known → Rule → Value → (ℕ → Text → Text) →
 show_value k r v inner ls = line_of k r v ∷ cond (opens_block r.holds v) (inner (inner_of r.holds) (bytes "}" ∷ ls)) ls
 
 abbrev pub show_slot : Known → Rule → Option Value → (ℕ → Text → Text) → Text → Text
-show_slot k r none inner ls = ls
-show_slot k r (some v) inner ls = show_value k r v inner ls
+show_slot k r None inner ls = ls
+show_slot k r (Some v) inner ls = show_value k r v inner ls
 
 abbrev pub show_slots : Known → List Rule → Slots → (ℕ → Text → Text) → Text → Text
 show_slots k [] s inner ls = ls

@@ -1,6 +1,5 @@
 -- Document 01, "Lines": comments, leading blanks, allowed bytes, the forms.
-use Rattle.std.specs.Prelude.{ℕ, ◌+◌, ◌-◌, Bool, true, false, cond, ◌&&◌, ◌||◌, not, List, [], ◌∷◌, eqb, length, take, drop}
-use Rattle.std.proofs.Math.Option.{Option, none, some}
+use Rattle.std.specs.Prelude.{ℕ, ◌+◌, ◌-◌, Bool, true, false, cond, ◌&&◌, ◌||◌, not, List, [], ◌∷◌, eqb, length, take, drop, Option, Some, None}
 use Rattle.rules.specs.declared.Span.{Span}
 use Rattle.rules.specs.declared.LineForm.{LineForm}
 use Rattle.rules.specs.declared.LineForm.TheVariants as L
@@ -90,8 +89,8 @@ form_of at (b ∷ s) = choose (eqb b 35) (λ _. ignored) (λ _. form_of_rest (un
 -- ── content ──
 -- content that ends in `:{`, without that end
 abbrev pub stem : List ℕ → Option (List ℕ)
-stem [] = none
-stem (b ∷ s) = cond (same (b ∷ s) (bytes ":{")) (some []) (map_o (λ t. b ∷ t) (stem s))
+stem [] = None
+stem (b ∷ s) = cond (same (b ∷ s) (bytes ":{")) (Some []) (map_o (λ t. b ∷ t) (stem s))
 
 -- What a line with a key is, where the rest is not free text: `key:{`, `key=`, `key=content`, `key=content:{`;
 -- "nor is content [empty], so `key=:{` is no form". With it the place of its content.
@@ -103,9 +102,9 @@ pub data Shape : Type 0 where
   formless : Shape
 
 abbrev pub by_stem : ℕ → List ℕ → Option (List ℕ) → Shape
-by_stem at c none = content at c
-by_stem at c (some []) = formless
-by_stem at c (some (b ∷ t)) = opening at (b ∷ t)
+by_stem at c None = content at c
+by_stem at c (Some []) = formless
+by_stem at c (Some (b ∷ t)) = opening at (b ∷ t)
 
 abbrev pub shape_of : Rest → Shape
 shape_of brace = opener

@@ -1,6 +1,5 @@
 -- Which block of the set is open, what it holds so far, and what a line does there. (A placed symbol's lines: PlacedSymbol.)
-use Rattle.std.specs.Prelude.{ℕ, zero, suc, ◌+◌, Bool, true, false, cond, ◌&&◌, ◌||◌, not, List, [], ◌∷◌, ◌++◌, map, eqb, leb, ltb, length, get_or, set}
-use Rattle.std.proofs.Math.Option.{Option, none, some}
+use Rattle.std.specs.Prelude.{ℕ, zero, suc, ◌+◌, Bool, true, false, cond, ◌&&◌, ◌||◌, not, List, [], ◌∷◌, ◌++◌, map, eqb, leb, ltb, length, get_or, set, Option, Some, None}
 use Rattle.rules.specs.declared.Class.{Class}
 use Rattle.rules.specs.Base.{is_nil, is_none, among, has_number}
 use Rattle.rules.specs.RefusalNumbers.{Got, got, bad, unless, and_then}
@@ -34,10 +33,10 @@ pub record Env : Type 0 where
 
 -- at a class, with room for every record, or for so many
 abbrev pub unlimited : Class → Env
-unlimited c = record { class = c; limit = none }
+unlimited c = record { class = c; limit = None }
 
 abbrev pub limited_to : Class → ℕ → Env
-limited_to c m = record { class = c; limit = some m }
+limited_to c m = record { class = c; limit = Some m }
 
 -- ── which block is open ──
 -- where figures stand: in a symbol's `element`, or in a layer
@@ -100,8 +99,8 @@ by_act here entered opened closed (refuse n) = bad n
 
 -- 19: "record doesn't fit the table"; it is tested last on its line
 abbrev pub room_for : Option ℕ → ℕ → Bool
-room_for none n = true
-room_for (some m) n = leb n m
+room_for None n = true
+room_for (Some m) n = leb n m
 
 -- records of these kinds, taken at this line
 abbrev pub taking : Env → List ℕ → Set → (Set → State) → Got State
@@ -167,8 +166,8 @@ on_file l s n h p f =
 abbrev pub on_drawing : Set → Drawing → Form → Got State
 on_drawing s d f =
     by_act (drawing s d)
-    (λ j v. got (drawing s (with_own (set d.own j (some v)) d)))
-    (λ i j v. got (layer_names s (with_own (set d.own j (some v)) d)))
+    (λ j v. got (drawing s (with_own (set d.own j (Some v)) d)))
+    (λ i j v. got (layer_names s (with_own (set d.own j (Some v)) d)))
     (λ _. got (top (with_drawing d s) 2))
     (act (known_of s) drawing_table (digits_of (arc_of s)) (rows_there d.own) f)
 
@@ -220,13 +219,13 @@ new_name s y = is_nil (symbol_name_of y) || not (among (symbol_name_of y) (known
 abbrev pub open_symbol : Set → Symbol → ℕ → Got State
 open_symbol s y zero = bad 5
 open_symbol s y (suc zero) = got (figures s (in_element y) [])
-open_symbol s y (suc (suc i)) = got (hide s (symbol_order (is_none (get_or y.own 1 none)) y) [])
+open_symbol s y (suc (suc i)) = got (hide s (symbol_order (is_none (get_or y.own 1 None)) y) [])
 
 abbrev pub on_symbol : Set → Symbol → Form → Got State
 on_symbol s y f =
     by_act (symbol s y)
-    (λ j v. let y' = symbol_own (set y.own j (some v)) y in unless (new_name s y') 15 (got (symbol s y')))
-    (λ i j v. open_symbol s (symbol_own (set y.own j (some v)) y) i)
+    (λ j v. let y' = symbol_own (set y.own j (Some v)) y in unless (new_name s y') 15 (got (symbol s y')))
+    (λ i j v. open_symbol s (symbol_own (set y.own j (Some v)) y) i)
     (λ _. got (defines (with_symbol y s) false))
     (act (known_of s) symbol_table (digits_of (define_range s)) (rows_there y.own) f)
 
@@ -317,7 +316,7 @@ on_successive e l s h fs n ps f =
 abbrev pub on_texts : Set → Home → List Figure → ℕ → Slots → Form → Got State
 on_texts s h fs n o f =
     by_act (texts s h fs n o)
-    (λ j v. got (texts s h fs n (set o j (some v))))
+    (λ j v. got (texts s h fs n (set o j (Some v))))
     (λ i j v. bad 5)
     (λ _. got (figures s h (fs ++ lettering n o ∷ [])))
     (act (known_of s) (text_table (is_layer h) 4 12) (digits 0 0) (rows_there o) f)

@@ -1,6 +1,5 @@
 -- Document 01, "Lines": decimals, counts, fixed digits, dates, times; how they are read and how they are written.
-use Rattle.std.specs.Prelude.{ℕ, zero, suc, ◌+◌, ◌*◌, ◌-◌, ◌/◌, ◌%◌, Bool, cond, ◌&&◌, List, [], ◌∷◌, ◌++◌, eqb, leb, ℤ, pos, negsuc, length}
-use Rattle.std.proofs.Math.Option.{Option, none, some}
+use Rattle.std.specs.Prelude.{ℕ, zero, suc, ◌+◌, ◌*◌, ◌-◌, ◌/◌, ◌%◌, Bool, cond, ◌&&◌, List, [], ◌∷◌, ◌++◌, eqb, leb, ℤ, pos, negsuc, length, Option, Some, None}
 use Rattle.rules.specs.Base.{all, map_o, within, Cut, whole, parts, cut}
 
 abbrev pub is_digit : ℕ → Bool
@@ -19,11 +18,11 @@ value s = value_from 0 s
 
 -- "Counts: 1 to 9 digits"; serial numbers have 1 to 10
 abbrev pub read_count : ℕ → List ℕ → Option ℕ
-read_count w s = cond (digit_run 1 w s) (some (value s)) none
+read_count w s = cond (digit_run 1 w s) (Some (value s)) None
 
 -- exactly w digits
 abbrev pub read_fixed : ℕ → List ℕ → Option ℕ
-read_fixed w s = cond (digit_run w w s) (some (value s)) none
+read_fixed w s = cond (digit_run w w s) (Some (value s)) None
 
 -- "date is eight digits, month 01-12, day 01-31; time six digits, at most 23, 59, 59."
 abbrev pub is_day : ℕ → Bool
@@ -40,8 +39,8 @@ pad_end (suc w) [] = 48 ∷ pad_end w []
 pad_end (suc w) (b ∷ s) = b ∷ pad_end w s
 
 abbrev pub read_parts : List ℕ → Cut → Option ℕ
-read_parts s whole = cond (digit_run 1 7 s) (some (value s * 10000)) none
-read_parts s (parts a b) = cond (digit_run 1 7 a && digit_run 1 4 b) (some (value a * 10000 + value (pad_end 4 b))) none
+read_parts s whole = cond (digit_run 1 7 s) (Some (value s * 10000)) None
+read_parts s (parts a b) = cond (digit_run 1 7 a && digit_run 1 4 b) (Some (value a * 10000 + value (pad_end 4 b))) None
 
 abbrev pub read_size : List ℕ → Option ℕ
 read_size s = read_parts s (cut 46 s)
@@ -52,7 +51,7 @@ minus (suc n) = negsuc n
 
 -- (wish 5 adds the number of fraction digits)
 abbrev pub read_decimal : List ℕ → Option ℤ
-read_decimal [] = none
+read_decimal [] = None
 read_decimal (b ∷ s) = cond (eqb b 45) (map_o minus (read_size s)) (map_o pos (read_size (b ∷ s)))
 
 -- ── written: "no needless zeros in decimals, counts and serials, `-0` as `0`" ──

@@ -1,7 +1,6 @@
 -- Document 01, "Range class": the classes with their wire parts (document 02), what a class knows, what a file's range allows, and skipped
 -- lines.
-use Rattle.std.specs.Prelude.{ℕ, ◌/◌, ◌%◌, min, Bool, cond, ◌&&◌, ◌||◌, not, List, leb, ltb}
-use Rattle.std.proofs.Math.Option.{Option, none, some}
+use Rattle.std.specs.Prelude.{ℕ, ◌/◌, ◌%◌, min, Bool, cond, ◌&&◌, ◌||◌, not, List, leb, ltb, Option, Some, None}
 use Rattle.rules.specs.declared.Digits.{Digits}
 use Rattle.rules.specs.declared.Class.{Class}
 use Rattle.rules.specs.Base.{bytes, same, within}
@@ -24,7 +23,7 @@ is_wire_part n = within 0 8 n || within 11 18 n
 
 -- "any other is 1": a class by its number and its wire part
 unfoldable pub class_of : ℕ → ℕ → Option Class
-class_of n w = cond (is_symbol_part n && is_wire_part w) (some (record { symbols = digits_of n; wires = digits_of w })) none
+class_of n w = cond (is_symbol_part n && is_wire_part w) (Some (record { symbols = digits_of n; wires = digits_of w })) None
 
 -- "Digits count one by one": d has at least the digits that l asks for.
 -- Said of the file's range it is "allows", said of the class it is "knows".

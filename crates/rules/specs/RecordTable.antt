@@ -1,6 +1,5 @@
 -- Document 01, "Record table": the records of a set, 32 numbers each, in the order of their lines.
-use Rattle.std.specs.Prelude.{ℕ, zero, suc, ◌+◌, ◌/◌, Bool, true, false, cond, List, [], ◌∷◌, ◌++◌, map, eqb, ℤ, pos, length, get_or, set, take, drop, replicate}
-use Rattle.std.proofs.Math.Option.{Option, none, some}
+use Rattle.std.specs.Prelude.{ℕ, zero, suc, ◌+◌, ◌/◌, Bool, true, false, cond, List, [], ◌∷◌, ◌++◌, map, eqb, ℤ, pos, length, get_or, set, take, drop, replicate, Option, Some, None}
 use Rattle.std.proofs.lemmas.List.Edits.{sets}
 use Rattle.rules.specs.declared.Digits.{Digits}
 use Rattle.rules.specs.declared.Class.{Class}
@@ -24,8 +23,8 @@ numbers (chars at c) = pos at ∷ pos (length c) ∷ []
 numbers (linked n ps) = pos n ∷ pos (length ps) ∷ []
 
 abbrev pub numbers_of : Option Value → List ℤ
-numbers_of none = []
-numbers_of (some v) = numbers v
+numbers_of None = []
+numbers_of (Some v) = numbers v
 
 -- "States: 0 absent, 1 empty, 2 given, 3 unread."
 abbrev pub given : Value → ℤ
@@ -35,8 +34,8 @@ given (chars at c) = pos 2
 given (linked n ps) = pos 2
 
 abbrev pub state_of : Option Value → ℤ
-state_of none = pos 0
-state_of (some v) = given v
+state_of None = pos 0
+state_of (Some v) = given v
 
 -- how many places of the record a row has
 abbrev pub columns : Kind → ℕ
@@ -80,7 +79,7 @@ abbrev pub put_slot : Rule → Option Value → List ℤ → List ℤ
 put_slot r o t = put_state r.state (state_of o) (put_numbers r.place (padded (columns r.holds) (numbers_of o)) t)
 
 abbrev pub first_slot : Slots → Option Value
-first_slot [] = none
+first_slot [] = None
 first_slot (o ∷ s) = o
 
 abbrev pub other_slots : Slots → Slots
@@ -210,13 +209,13 @@ rule_at t j = get_or t j (row "" (opens 0) 0)
 
 -- "10 line, 11 circle, 12 ellipse, 13 point": a figure's row in the table, behind that of `line`
 abbrev pub plain_record : View → ℕ → ℕ → ℕ → ℕ → ℕ → List Num → List ℤ
-plain_record w more owner volume line j v = put_slot (rule_at w.table j) (some (nums v)) (start (kind_line + more + j) owner volume line)
+plain_record w more owner volume line j v = put_slot (rule_at w.table j) (Some (nums v)) (start (kind_line + more + j) owner volume line)
 
 -- "17 a successive's points", "43 hide point": kind, and the table of points
 abbrev pub point_records : ℕ → ℕ → ℕ → List Point → List (List ℤ)
 point_records kind owner volume [] = []
 point_records kind owner volume (p ∷ ps) =
-    put_slot (rule_at (point_table true) 0) (some (nums p.values)) (start kind owner volume p.line) ∷ point_records kind owner volume ps
+    put_slot (rule_at (point_table true) 0) (Some (nums p.values)) (start kind owner volume p.line) ∷ point_records kind owner volume ps
 
 -- "14 successive (first point's type, point count)"
 abbrev pub first_type : List Point → ℤ
@@ -240,7 +239,7 @@ placed_number = 6
 
 abbrev pub line_record : View → ℕ → ℕ → ℕ → ℕ → ℕ → List Num → List ℤ
 line_record w more owner volume n j v =
-    cond (eqb j placed_number) (placed_record w more owner volume n ((some (nums v) ∷ []) ∷ [])) (plain_record w more owner volume n j v)
+    cond (eqb j placed_number) (placed_record w more owner volume n ((Some (nums v) ∷ []) ∷ [])) (plain_record w more owner volume n j v)
 
 -- ── wires: "18 and 19, both at the wire's line", one list of 64 numbers ──
 abbrev pub wire_start : ℕ → ℕ → ℕ → List ℤ
@@ -331,7 +330,7 @@ place_join = 11
 
 abbrev pub edge_record : ℕ → ℕ → Edge → List ℤ
 edge_record owner volume e =
-    set (put_slot (rule_at wire_table e.row) (some (nums e.values)) (start (kind_edge + e.row) owner volume e.line)) place_join (pos e.join)
+    set (put_slot (rule_at wire_table e.row) (Some (nums e.values)) (start (kind_edge + e.row) owner volume e.line)) place_join (pos e.join)
 
 abbrev pub edge_records : ℕ → ℕ → List Edge → List (List ℤ)
 edge_records owner volume es = map (edge_record owner volume) es

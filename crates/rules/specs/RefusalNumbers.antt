@@ -1,6 +1,5 @@
 -- Document 01, "Refusal numbers": an answer, or the number of the first broken rule.
-use Rattle.std.specs.Prelude.{ℕ, min, Bool, true, false, List, ◌∷◌}
-use Rattle.std.proofs.Math.Option.{Option, none, some}
+use Rattle.std.specs.Prelude.{ℕ, min, Bool, true, false, List, ◌∷◌, Option, Some, None}
 
 -- The words for a refusal. `bad n`: whatever is being judged breaks a rule, the one of number n; where it stands is not said yet. A line
 -- hands that number on as its form (`Lines: wrong`, 4 or 5, whichever block is open) or as what it does in its block (`Rows: refuse`).
@@ -24,8 +23,8 @@ and_then (bad n) f = bad n
 
 -- the value, or number n
 abbrev pub or_bad : {A : Type 0} → ℕ → Option A → Got A
-or_bad n none = bad n
-or_bad n (some a) = got a
+or_bad n None = bad n
+or_bad n (Some a) = got a
 
 -- a rule that the value must keep, with its number
 abbrev pub keep : {A : Type 0} → ℕ → (A → Bool) → Got A → Got A

@@ -1,8 +1,7 @@
 -- A block's table of keys, what a block holds so far, and what one line does in a block.
 -- (Document 01, "Blocks": "Inside a block lines come in any order, each key once, all required, unless said.")
-use Rattle.std.specs.Prelude.{ℕ, suc, Bool, true, false, cond, ◌&&◌, ◌||◌, not, List, [], ◌∷◌, map, leb, get_or, set}
+use Rattle.std.specs.Prelude.{ℕ, suc, Bool, true, false, cond, ◌&&◌, ◌||◌, not, List, [], ◌∷◌, map, leb, get_or, set, Option, Some, None}
 use Prim.Native.String as S
-use Rattle.std.proofs.Math.Option.{Option, none, some}
 use Rattle.rules.specs.declared.Digits.{Digits}
 use Rattle.rules.specs.Base.{bytes, is_some, same}
 use Rattle.rules.specs.RefusalNumbers.{Got, got, bad, unless, map_g, and_then}
@@ -74,7 +73,7 @@ Slots = List (Option Value)
 
 abbrev pub blank : List Rule → Slots
 blank [] = []
-blank (r ∷ rs) = none ∷ blank rs
+blank (r ∷ rs) = None ∷ blank rs
 
 -- a block's own slots, and then those of each of its inner parts
 abbrev pub Held : Type 0
@@ -84,7 +83,7 @@ abbrev pub part_of : Held → ℕ → Slots
 part_of h p = get_or h p []
 
 abbrev pub enter : Held → ℕ → ℕ → Value → Held
-enter h p j v = set h p (set (part_of h p) j (some v))
+enter h p j v = set h p (set (part_of h p) j (Some v))
 
 -- the rows that are there: those whose line was read
 abbrev pub rows_there : Slots → List Bool
@@ -101,13 +100,13 @@ abbrev pub rows_at_limit : ℕ → List Rule → List Bool
 rows_at_limit n t = map (λ r. limit_reached n r.times) t
 
 abbrev pub slot_value : Option Value → Value
-slot_value none = empty
-slot_value (some v) = v
+slot_value None = empty
+slot_value (Some v) = v
 
 -- what the row of a key holds
 abbrev pub held_at : Found → Slots → Option Value
-held_at absent s = none
-held_at (found i r) s = get_or s i none
+held_at absent s = None
+held_at (found i r) s = get_or s i None
 
 abbrev pub held : S.String → List Rule → Slots → Option Value
 held k t s = held_at (find (bytes k) t) s

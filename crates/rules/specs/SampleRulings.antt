@@ -1,8 +1,6 @@
 -- Document 01, "Sample rulings" (the cases marked P) and "Three readings to keep out": one table, one theorem, computed.
-use Rattle.std.specs.Prelude.{ℕ, ◌+◌, ◌*◌, List, [], ◌∷◌, ◌++◌, map, ◌≡◌, refl, ℤ, pos, take, replicate}
+use Rattle.std.specs.Prelude.{ℕ, ◌+◌, ◌*◌, List, [], ◌∷◌, ◌++◌, map, ◌≡◌, refl, ℤ, pos, take, replicate, Result, Ok, Err}
 use Prim.Native.String as S
-use Rattle.rules.specs.declared.Answer.{Answer}
-use Rattle.rules.specs.declared.Answer.TheVariants.{Accepted, Refused}
 use Rattle.rules.specs.Base.{bytes, flat}
 use Rattle.rules.specs.Numbers.{minus}
 use Rattle.rules.specs.RefusalNumbers.{Got, got, bad}
@@ -10,6 +8,7 @@ use Rattle.rules.specs.Spool.{unlines, volume_bytes}
 use Rattle.rules.specs.Values.{Num, decimal, any_sign, read_part}
 use Rattle.rules.specs.Answers.{read_answer, read_records, own_records, written}
 use Rattle.rules.specs.RecordTable.{width}
+use Rattle.rules.specs.declared.Refusal.{Refusal}
 
 -- ── spools in plain writing ──
 abbrev pub Lines : Type 0
@@ -279,9 +278,9 @@ asked (ruled q r) = q
 abbrev pub expected : Case → Ruling
 expected (ruled q r) = r
 
-abbrev pub of_reading : Answer → List (List ℤ) → Ruling
-of_reading (Accepted n) rs = accepted n rs
-of_reading (Refused r) rs = refused r.number r.volume r.line
+abbrev pub of_reading : Result ℕ Refusal → List (List ℤ) → Ruling
+of_reading (Ok n) rs = accepted n rs
+of_reading (Err r) rs = refused r.number r.volume r.line
 
 abbrev pub of_number : Got Num → Ruling
 of_number (got n) = worth n.value

@@ -1,7 +1,6 @@
 -- What is read: the set of volumes, block by block, in the order written.
 -- Lines and byte places are plain data, kept with what takes a record.
-use Rattle.std.specs.Prelude.{ℕ, ◌+◌, ◌/◌, Bool, cond, not, List, [], ◌∷◌, ◌++◌, map, eqb, length, get_or, drop}
-use Rattle.std.proofs.Math.Option.{Option, none, some}
+use Rattle.std.specs.Prelude.{ℕ, ◌+◌, ◌/◌, Bool, cond, not, List, [], ◌∷◌, ◌++◌, map, eqb, length, get_or, drop, Option, Some, None}
 use Rattle.rules.specs.declared.Digits.{Digits}
 use Rattle.rules.specs.Base.{is_nil, total, flat}
 use Rattle.rules.specs.RangeClass.{digits_of}
@@ -188,15 +187,15 @@ own_serial (n ∷ ps) = n ∷ []
 
 -- a wire's, the first number of its serial
 abbrev pub own_number : Option Value → List ℕ
-own_number none = []
-own_number (some v) = amount_at v 0 ∷ []
+own_number None = []
+own_number (Some v) = amount_at v 0 ∷ []
 
 abbrev pub figure_serial : Figure → List ℕ
 figure_serial (plain n j v) = []
 figure_serial (chain n ps) = []
 figure_serial (lettering n s) = []
 figure_serial (placed n h) = own_serial (serials_of (slot_value (held "serial" placed_table (part_of h 0))))
-figure_serial (wired n w) = own_number (get_or w.own wire_serial_row none)
+figure_serial (wired n w) = own_number (get_or w.own wire_serial_row None)
 figure_serial (passed n) = []
 
 abbrev pub serials_of_block : LayerBlock → List ℕ
@@ -218,7 +217,7 @@ figure_partners (plain n j v) = []
 figure_partners (chain n ps) = []
 figure_partners (lettering n s) = []
 figure_partners (placed n h) = drop 1 (serials_of (slot_value (held "serial" placed_table (part_of h 0))))
-figure_partners (wired n w) = wire_partners (slot_value (get_or w.own wire_serial_row none))
+figure_partners (wired n w) = wire_partners (slot_value (get_or w.own wire_serial_row None))
 figure_partners (passed n) = []
 
 abbrev pub partners_of_volume : Contents → List ℕ

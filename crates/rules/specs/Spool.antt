@@ -1,6 +1,5 @@
 -- Document 01, "Spool (H)": the volumes of a spool, the lines of a volume.
-use Rattle.std.specs.Prelude.{ℕ, zero, suc, ◌+◌, ◌*◌, ◌/◌, ◌%◌, Bool, true, false, cond, ◌&&◌, ◌||◌, not, List, [], ◌∷◌, ◌++◌, map, eqb, leb, length, get_or, take, drop, replicate}
-use Rattle.std.proofs.Math.Option.{Option, none, some}
+use Rattle.std.specs.Prelude.{ℕ, zero, suc, ◌+◌, ◌*◌, ◌/◌, ◌%◌, Bool, true, false, cond, ◌&&◌, ◌||◌, not, List, [], ◌∷◌, ◌++◌, map, eqb, leb, length, get_or, take, drop, replicate, Option, Some, None}
 use Rattle.rules.specs.Base.{choose, map_o, is_nil, all, same, distinct, within}
 
 -- "1 to 61,440 bytes; 1 to 12 volumes, nothing after."
@@ -48,49 +47,49 @@ volume_at at h s = record { name = name_of (take 8 (drop 2 h)); place = at + 12;
 
 -- the volumes from a place on, k at most; none where something there is no volume, or one too many
 abbrev pub volumes_from : ℕ → ℕ → List ℕ → Option (List Volume)
-volumes_from zero at [] = some []
-volumes_from zero at (b ∷ s) = none
-volumes_from (suc k) at [] = some []
+volumes_from zero at [] = Some []
+volumes_from zero at (b ∷ s) = None
+volumes_from (suc k) at [] = Some []
 volumes_from (suc k) at (b ∷ s) =
     let h = take 12 (b ∷ s) in
     let r = drop 12 (b ∷ s) in
     choose (good_head h r)
     (λ _. map_o (λ vs. volume_at at h r ∷ vs) (volumes_from k (at + 12 + length_of h) (drop (length_of h) r)))
-    (λ _. none)
+    (λ _. None)
 
 abbrev pub names_of : List Volume → List (List ℕ)
 names_of vs = map (λ v. v.name) vs
 
 -- at least one volume, and "Names in the spool differ (else 2)."
 abbrev pub sound_volumes : Option (List Volume) → Option (List Volume)
-sound_volumes none = none
-sound_volumes (some vs) = cond (not (is_nil vs) && distinct (names_of vs)) (some vs) none
+sound_volumes None = None
+sound_volumes (Some vs) = cond (not (is_nil vs) && distinct (names_of vs)) (Some vs) None
 
 -- none is refusal 2
 unfoldable pub volumes_of : List ℕ → Option (List Volume)
-volumes_of s = choose (within 1 most_bytes (length s)) (λ _. sound_volumes (volumes_from most_volumes 0 s)) (λ _. none)
+volumes_of s = choose (within 1 most_bytes (length s)) (λ _. sound_volumes (volumes_from most_volumes 0 s)) (λ _. None)
 
 -- ── the lines of a volume ──
 -- "A volume is zero or more lines, each ended by CR LF, then one byte 1A hex. No other 1A, CR or LF."
 abbrev pub head_line : ℕ → Option (List (List ℕ)) → Option (List (List ℕ))
-head_line b none = none
-head_line b (some []) = none
-head_line b (some (l ∷ ls)) = some ((b ∷ l) ∷ ls)
+head_line b None = None
+head_line b (Some []) = None
+head_line b (Some (l ∷ ls)) = Some ((b ∷ l) ∷ ls)
 
 -- the first argument: a CR was just read
 abbrev pub lines_from : Bool → List ℕ → Option (List (List ℕ))
-lines_from true [] = none
-lines_from true (b ∷ s) = choose (eqb b 10) (λ _. map_o (λ ls. [] ∷ ls) (lines_from false s)) (λ _. none)
-lines_from false [] = none
+lines_from true [] = None
+lines_from true (b ∷ s) = choose (eqb b 10) (λ _. map_o (λ ls. [] ∷ ls) (lines_from false s)) (λ _. None)
+lines_from false [] = None
 lines_from false (b ∷ s) =
     choose (eqb b 13) (λ _. lines_from true s) λ _.
-    choose (eqb b 26) (λ _. cond (is_nil s) (some []) none) λ _.
-    choose (eqb b 10) (λ _. none) λ _.
+    choose (eqb b 26) (λ _. cond (is_nil s) (Some []) None) λ _.
+    choose (eqb b 10) (λ _. None) λ _.
     head_line b (lines_from false s)
 
 abbrev pub short_lines : Option (List (List ℕ)) → Option (List (List ℕ))
-short_lines none = none
-short_lines (some ls) = cond (all (λ l. leb (length l) most_in_line) ls) (some ls) none
+short_lines None = None
+short_lines (Some ls) = cond (all (λ l. leb (length l) most_in_line) ls) (Some ls) None
 
 -- none is refusal 3
 unfoldable pub lines_of : List ℕ → Option (List (List ℕ))

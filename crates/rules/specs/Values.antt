@@ -1,7 +1,6 @@
 -- What a key may hold: the values between commas, texts, words; how they are read, with the numbers 10 to 14, and written.
 -- (Document 01, "Lines", "Blocks" and "Figures"; the tables of keys in Blocks and Figures are made of these.)
-use Rattle.std.specs.Prelude.{ℕ, ◌+◌, ◌-◌, ◌/◌, ◌%◌, Bool, true, false, cond, ◌&&◌, ◌||◌, not, List, [], ◌∷◌, ◌++◌, map, eqb, leb, ltb, ℤ, pos, negsuc, length, get_or, take, drop}
-use Rattle.std.proofs.Math.Option.{Option, none, some}
+use Rattle.std.specs.Prelude.{ℕ, ◌+◌, ◌-◌, ◌/◌, ◌%◌, Bool, true, false, cond, ◌&&◌, ◌||◌, not, List, [], ◌∷◌, ◌++◌, map, eqb, leb, ltb, ℤ, pos, negsuc, length, get_or, take, drop, Option, Some, None}
 use Rattle.std.specs.Int.Signed.{lt_z, le_z}
 use Rattle.rules.specs.Base.{bytes, all, flat, among, same, index_of, has_number, within, Cut, whole, parts, cut, split, join}
 use Rattle.rules.specs.RefusalNumbers.{Got, got, bad, unless, map_g, or_bad, keep, cons_g}
@@ -269,8 +268,8 @@ abbrev pub two_nums : ℕ → ℕ → List Num
 two_nums a b = num (pos a) ∷ num (pos b) ∷ []
 
 abbrev pub find_sheet : List ℕ → List (List ℕ × ℕ × ℕ) → Option (List Num)
-find_sheet s [] = none
-find_sheet s (a ∷ as') = cond (same s a.0) (some (two_nums a.1 a.2)) (find_sheet s as')
+find_sheet s [] = None
+find_sheet s (a ∷ as') = cond (same s a.0) (Some (two_nums a.1 a.2)) (find_sheet s as')
 
 abbrev pub show_sheet : ℕ → ℕ → List ℕ
 show_sheet n a = cond (eqb n 1) [] (show_count 2 n) ++ 65 ∷ fixed 1 a

@@ -1,6 +1,5 @@
 -- Document 02, wish 1: what a line does in a wire's block.
-use Rattle.std.specs.Prelude.{ℕ, zero, suc, ◌+◌, ◌-◌, Bool, true, false, cond, ◌&&◌, ◌||◌, not, List, [], ◌∷◌, ◌++◌, eqb, leb, ltb, length, get_or, set, drop}
-use Rattle.std.proofs.Math.Option.{Option, none, some}
+use Rattle.std.specs.Prelude.{ℕ, zero, suc, ◌+◌, ◌-◌, Bool, true, false, cond, ◌&&◌, ◌||◌, not, List, [], ◌∷◌, ◌++◌, eqb, leb, ltb, length, get_or, set, drop, Option, Some, None}
 use Rattle.rules.specs.Base.{within}
 use Rattle.rules.specs.RefusalNumbers.{Got, got, bad, unless}
 use Rattle.rules.specs.Lines.{Rest, Form, ignored, wrong, close, eof, keyed}
@@ -20,8 +19,8 @@ joins_ends digit = eqb digit 4
 
 -- the element before: none before the first
 abbrev pub last_edge : List Edge → Option Edge
-last_edge [] = none
-last_edge (e ∷ []) = some e
+last_edge [] = None
+last_edge (e ∷ []) = Some e
 last_edge (e ∷ f ∷ es) = last_edge (f ∷ es)
 
 -- a row of `wire_table`: `line` is the first
@@ -44,14 +43,14 @@ join_untested = 2
 
 abbrev pub join_of : Bool → Option Edge → ℕ → ℕ
 join_of false former row = join_none
-join_of true none row = join_none
-join_of true (some e) row = cond (is_line_row e.row && is_line_row row) join_tested join_untested
+join_of true None row = join_none
+join_of true (Some e) row = cond (is_line_row e.row && is_line_row row) join_tested join_untested
 
 -- "a join that fails is 11 at the later line"
 abbrev pub joined : Bool → Option Edge → ℕ → List Num → Bool
 joined false former row this = true
-joined true none row this = true
-joined true (some e) row this = not (is_line_row e.row && is_line_row row) || meets e.values this
+joined true None row this = true
+joined true (Some e) row this = not (is_line_row e.row && is_line_row row) || meets e.values this
 
 -- ── what is kept of a line ──
 abbrev pub with_element : Wire → Edge → Wire
@@ -79,7 +78,7 @@ is_group_row j = within first_group_row num_row j
 
 abbrev pub with_attribute : Wire → ℕ → Value → Wire
 with_attribute w j v =
-    cond (is_group_row j) (with_groups (set w.groups (j - first_group_row) (group_at w j ++ nums_of v ∷ [])) w) (with_once (set w.own j (some v)) w)
+    cond (is_group_row j) (with_groups (set w.groups (j - first_group_row) (group_at w j ++ nums_of v ∷ [])) w) (with_once (set w.own j (Some v)) w)
 
 -- which rows may take no more: `direc` "0 to 2", the rows that stand once
 abbrev pub wire_full : Wire → List Bool
@@ -107,7 +106,7 @@ nums_alike w j v = not (eqb j num_row) || like_first (group_at w j) v
 
 -- "A wire's serial must differ from every symbol's and wire's" (15)
 abbrev pub new_number : Set → List Figure → ℕ → Value → Bool
-new_number s fs j v = not (eqb j wire_serial_row) || none_of (own_number (some v)) (numbers_so_far s fs)
+new_number s fs j v = not (eqb j wire_serial_row) || none_of (own_number (Some v)) (numbers_so_far s fs)
 
 abbrev pub on_attribute : Set → ℕ → List Figure → ℕ → Wire → ℕ → Value → Got State
 on_attribute s h fs n w j v =
@@ -152,7 +151,7 @@ on_wire_own e l s h fs n w (keyed k c) = on_wire_key e l s h fs n w k c (find k 
 abbrev pub on_wire_text : Set → ℕ → List Figure → ℕ → Wire → ℕ → Form → Got State
 on_wire_text s h fs n w p f =
     by_act (placing s h fs n (wire_block w) p)
-    (λ j v. got (placing s h fs n (wire_block (with_texts w.texts (set w.writing j (some v)) w)) p))
+    (λ j v. got (placing s h fs n (wire_block (with_texts w.texts (set w.writing j (Some v)) w)) p))
     (λ i j v. bad 5)
     (λ _. got (placing s h fs n (wire_block (with_texts (w.texts ++ w.writing ∷ []) [] w)) 0))
     (act (known_of s) wire_text_table (digits 0 0) (rows_there w.writing) f)

@@ -23,13 +23,6 @@ pub struct Refusal {
     pub line: u32,
 }
 
-// What the reader and the rewriter answer: the count written (records, or bytes), or the refusal.
-#[derive(Clone, Copy)]
-pub enum Answer {
-    Accepted(u32),
-    Refused(Refusal),
-}
-
 // A part of the spool: the place of its first byte, from 0, and its length.
 #[derive(Clone, Copy)]
 pub struct Span {

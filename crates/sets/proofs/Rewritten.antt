@@ -1,4 +1,5 @@
 -- The rewriter's answer and the output on return, by what the judging and the writing come to.
+use Rattle.std.specs.Prelude.{Result, Ok, Err}
 use Prim.Native.Nat.{ℕ, ◌-◌, ◌≤◌}
 use mathlib.Core.Bool.{Bool, true, false, cond}
 use mathlib.Core.List.{List, ◌++◌}
@@ -8,15 +9,11 @@ use lib.Dec.{leb}
 use lib.ListN.{length, take, replicate}
 use borrow.Author.Tests.{leb-true}
 use Rattle.rules.specs.declared.Refusal.{Refusal}
-use Rattle.rules.specs.declared.Answer.{Answer}
-use Rattle.rules.specs.declared.Answer.TheVariants as A
 use Rattle.rules.specs.Spool.{most_bytes}
 use Rattle.rules.specs.LineByLine.{Outcome, accepted}
 use Rattle.rules.specs.Answers.{answer_with, refusal, rewrite_outcome, written, fit_output, rewrite_answer, rewrite_output}
 use Rattle.promises.proofs.Answered.{demand-one}
 use Rattle.promises.proofs.Round.{written_back}
-use Rattle.leaves.specs.declared.Wrote.{Wrote}
-use Rattle.leaves.specs.declared.Wrote.TheVariants as W
 use Rattle.lines.proofs.VolumePlaces.{volumes-laid}
 use Rattle.volumes.specs.Volumes.{Fronts, SetPromise}
 use Rattle.prints.specs.Printing.{Within}
@@ -24,29 +21,31 @@ use Rattle.pens.proofs.Behind.{full-not}
 use Rattle.volumes.proofs.LentOutput.{lent, back, lent-long, back_is}
 use Rattle.volumes.proofs.SetWalk.{accepted-so}
 use Rattle.sets.specs.SetReading.{IsAccepted, Judged}
+use Rattle.leaves.specs.declared.NoRoom.{NoRoom}
+use Rattle.leaves.specs.NoRoom.{no_room}
 
 module _ (len : ℕ) (spool : List ℕ) where
   -- what is answered, and what the output holds
-  abbrev pub Rewrites : Answer → List ℕ → Type 0
+  abbrev pub Rewrites : Result ℕ Refusal → List ℕ → Type 0
   Rewrites a out = (a ≡ rewrite_answer len spool) × (out ≡ rewrite_output len spool)
 
   answer_of : (o : Outcome) → rewrite_outcome spool ≡ o → rewrite_answer len spool ≡ fit_output len (length (written spool)) (answer_with (length (written spool)) o)
   unfolding rewrite_answer
   answer_of o e = ap (λ (x : Outcome). fit_output len (length (written spool)) (answer_with (length (written spool)) x)) e
 
-  refused-so : (r : Refusal) (out : List ℕ) → rewrite_answer len spool ≡ A.Refused r → out ≡ replicate len 0 → Rewrites (A.Refused r) out
+  refused-so : (r : Refusal) (out : List ℕ) → rewrite_answer len spool ≡ Err r → out ≡ replicate len 0 → Rewrites (Err r) out
   refused-so r out e h = (sym e, h ∙ sym ((demand-one.rewriter len spool).when_refused r e))
 
   -- the spool is refused
-  pub rewrites-refused : (f : Refusal) (out : List ℕ) → Judged spool (A.Refused f) → out ≡ replicate len 0 → Rewrites (A.Refused f) out
+  pub rewrites-refused : (f : Refusal) (out : List ℕ) → Judged spool (Err f) → out ≡ replicate len 0 → Rewrites (Err f) out
   rewrites-refused f out j h = refused-so f out (answer_of _ j) h
 
   module _ (yes : IsAccepted spool) where
-    accepts : rewrite_answer len spool ≡ cond (leb (length (written spool)) len) (A.Accepted (length (written spool))) (refusal 20 0 0)
+    accepts : rewrite_answer len spool ≡ cond (leb (length (written spool)) len) (Ok (length (written spool))) (refusal 20 0 0)
     accepts = answer_of (accepted yes.0) yes.1
 
 -- an accepted spool, behind the writing
-module _ (spool before after : List ℕ) (r : Wrote) (yes : IsAccepted spool) (within : Within before after r) (promise : SetPromise spool before after r) where
+module _ (spool before after : List ℕ) (r : Result ℕ NoRoom) (yes : IsAccepted spool) (within : Within before after r) (promise : SetPromise spool before after r) where
   abbrev len : ℕ
   len = length before
 
@@ -57,19 +56,19 @@ module _ (spool before after : List ℕ) (r : Wrote) (yes : IsAccepted spool) (w
   fronts = promise yes.0 yes.1
 
   -- it does not fit
-  pub rewrites-full : r ≡ W.Full → (out : List ℕ) → out ≡ replicate (length after) 0 → Rewrites len spool (refusal 20 0 0) out
+  pub rewrites-full : r ≡ (Err no_room) → (out : List ℕ) → out ≡ replicate (length after) 0 → Rewrites len spool (refusal 20 0 0) out
   rewrites-full e out h =
-      refused-so len spool _ out (accepts len spool yes ∙ ap (λ (b : Bool). cond b (A.Accepted (length text)) (refusal 20 0 0)) (go (leb (length text) len) (sym e ∙ fronts.answer))) (h ∙ ap (λ (m : ℕ). replicate m 0) within.long)
+      refused-so len spool _ out (accepts len spool yes ∙ ap (λ (b : Bool). cond b (Ok (length text)) (refusal 20 0 0)) (go (leb (length text) len) (sym e ∙ fronts.answer))) (h ∙ ap (λ (m : ℕ). replicate m 0) within.long)
     where
-      go : (b : Bool) → W.Full ≡ cond b (W.Bytes (length text)) W.Full → b ≡ false
+      go : (b : Bool) → (Err no_room) ≡ cond b (Ok (length text)) (Err no_room) → b ≡ false
       go true q = full-not q
       go false q = refl
 
-  module _ (n : ℕ) (e : r ≡ W.Bytes n) where
+  module _ (n : ℕ) (e : r ≡ Ok n) where
     wrote : (leb (length text) len ≡ true) × (n ≡ length text)
     wrote = go (leb (length text) len) (sym e ∙ fronts.answer)
       where
-        go : (b : Bool) → W.Bytes n ≡ cond b (W.Bytes (length text)) W.Full → (b ≡ true) × (n ≡ length text)
+        go : (b : Bool) → Ok n ≡ cond b (Ok (length text)) (Err no_room) → (b ≡ true) × (n ≡ length text)
         go true q = (refl, cc)
         go false q = full-not (sym q)
 
@@ -83,11 +82,11 @@ module _ (spool before after : List ℕ) (r : Wrote) (yes : IsAccepted spool) (w
         omega (arith, wrote.1, (written_back spool yes.0 yes.1).no_longer, (volumes-laid spool a.volumes a.are).spool)
 
     -- what is behind it is cleared
-    pub rewrites-accepted : (rest : List ℕ) → rest ≡ replicate (length (lent n after wrote-inside)) 0 → Rewrites len spool (A.Accepted n) (back n after wrote-inside rest)
+    pub rewrites-accepted : (rest : List ℕ) → rest ≡ replicate (length (lent n after wrote-inside)) 0 → Rewrites len spool (Ok n) (back n after wrote-inside rest)
     rewrites-accepted rest h =
         let (fits, size) = wrote in
-        let is : rewrite_answer len spool ≡ A.Accepted n =
-        accepts len spool yes ∙ ap (λ (b : Bool). cond b (A.Accepted (length text)) (refusal 20 0 0)) fits ∙ ap A.Accepted (sym size) in
+        let is : rewrite_answer len spool ≡ Ok n =
+        accepts len spool yes ∙ ap (λ (b : Bool). cond b (Ok (length text)) (refusal 20 0 0)) fits ∙ ap Ok (sym size) in
         let front : take n after ≡ text = ap (λ (m : ℕ). take m after) size ∙ fronts.memory (leb-true (length text) len fits) in
         let zeros : rest ≡ replicate (len - n) 0 = h ∙ ap (λ (m : ℕ). replicate m 0) (lent-long n after wrote-inside ∙ ap (λ (m : ℕ). m - n) within.long) in
         (sym is, back_is n after wrote-inside rest ∙ ap₂ ◌++◌ front zeros ∙ sym ((demand-one.rewriter len spool).when_accepted n is).stands)

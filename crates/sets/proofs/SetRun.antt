@@ -1,8 +1,8 @@
 -- The volumes of a set read one after the other: how far the reading has come, and what one more volume makes of it.
+use Rattle.std.specs.Prelude.{Option, Some, None, Result, Ok, Err}
 use Prim.Native.Nat.{ℕ, zero, suc, ◌+◌, ◌-◌, ◌*◌, ◌/◌, ◌≤◌, ◌<◌}
 use mathlib.Core.Bool.{Bool}
 use mathlib.Core.List.{List, [], ◌∷◌, ◌++◌}
-use mathlib.Core.Option.{Option, none, some}
 use mathlib.Core.Path.{◌≡◌, refl, sym, ◌∙◌, ap, subst}
 use native.Mathlib.Omega.{arith}
 use lib.IntN.{ℤ, pos}
@@ -30,8 +30,6 @@ use Rattle.lines.proofs.VolumePlaces.{volumes-laid}
 use Rattle.lines.proofs.VolumesSeen.{VolumeIn, volume_in, AllLined, lines_over, lined-listed, sound-volumes, unsound-volume}
 use Rattle.account.specs.declared.Now.{Now}
 use Rattle.account.specs.declared.Volume.{Volume}
-use Rattle.account.specs.declared.Through.{Through}
-use Rattle.account.specs.declared.Through.TheVariants as T
 use Rattle.account.specs.Walk.{end_of, At}
 use Rattle.standing.specs.Standing.{Desk}
 use Rattle.standing.specs.FileStanding.{InFile}
@@ -49,7 +47,7 @@ pub outcome-is : (e : Env) (spool : List ℕ) → outcome_of e spool ≡ outcome
 unfolding outcome_of
 outcome-is e spool = refl
 
-count_none : (layout_of none).count ≡ 0
+count_none : (layout_of None).count ≡ 0
 unfolding layout_of no_layout
 count_none = refl
 
@@ -57,20 +55,20 @@ outcome-none : (e : Env) (spool : List ℕ) (l : Layout) → l ≡ layout_of (vo
 outcome-none e spool l q h = outcome-is e spool ∙ go (volumes_of spool) refl
   where
     go : (o : Option (List P.Volume)) → volumes_of spool ≡ o → outcome_of_volumes e (volumes_of spool) ≡ refused 2 0 0
-    go none z = ap (outcome_of_volumes e) z
-    go (some vs) z = absurd (let y = volumes-laid spool vs z in omega (arith, h, ap (λ (x : Layout). x.count) q, y.count, y.some-volume))
+    go None z = ap (outcome_of_volumes e) z
+    go (Some vs) z = absurd (let y = volumes-laid spool vs z in omega (arith, h, ap (λ (x : Layout). x.count) q, y.count, y.some-volume))
 
-pub some-volumes : (spool : List ℕ) (l : Layout) → l ≡ layout_of (volumes_of spool) → (l.count ≡ 0 → ⊥) → (vs : List P.Volume) × (volumes_of spool ≡ some vs)
+pub some-volumes : (spool : List ℕ) (l : Layout) → l ≡ layout_of (volumes_of spool) → (l.count ≡ 0 → ⊥) → (vs : List P.Volume) × (volumes_of spool ≡ Some vs)
 some-volumes spool l q h = go (volumes_of spool) refl
   where
-    go : (o : Option (List P.Volume)) → volumes_of spool ≡ o → (vs : List P.Volume) × (volumes_of spool ≡ some vs)
-    go none z = absurd (h (ap (λ (x : Layout). x.count) q ∙ ap (λ (o : Option (List P.Volume)). (layout_of o).count) z ∙ count_none))
-    go (some vs) z = (vs, z)
+    go : (o : Option (List P.Volume)) → volumes_of spool ≡ o → (vs : List P.Volume) × (volumes_of spool ≡ Some vs)
+    go None z = absurd (h (ap (λ (x : Layout). x.count) q ∙ ap (λ (o : Option (List P.Volume)). (layout_of o).count) z ∙ count_none))
+    go (Some vs) z = (vs, z)
 
-pub outcome_unsound : (e : Env) (spool : List ℕ) (vs : List P.Volume) → volumes_of spool ≡ some vs → (n : ℕ) → first_unsound spool (layout_of (volumes_of spool)) ≡ suc n → outcome_of e spool ≡ refused 3 (suc n) 0
+pub outcome_unsound : (e : Env) (spool : List ℕ) (vs : List P.Volume) → volumes_of spool ≡ Some vs → (n : ℕ) → first_unsound spool (layout_of (volumes_of spool)) ≡ suc n → outcome_of e spool ≡ refused 3 (suc n) 0
 outcome_unsound e spool vs z n h = outcome-is e spool ∙ ap (outcome_of_volumes e) z ∙ ap (outcome_of_lines e) (unsound-volume spool vs z n h)
 
-pub outcome-lined : (e : Env) (spool : List ℕ) (vs : List P.Volume) → volumes_of spool ≡ some vs → (h : AllLined vs) → outcome_of e spool ≡ run e (top nothing_yet 0) (lines_over 1 vs h)
+pub outcome-lined : (e : Env) (spool : List ℕ) (vs : List P.Volume) → volumes_of spool ≡ Some vs → (h : AllLined vs) → outcome_of e spool ≡ run e (top nothing_yet 0) (lines_over 1 vs h)
 outcome-lined e spool vs z h = outcome-is e spool ∙ ap (outcome_of_volumes e) z ∙ ap (outcome_of_lines e) (lined-listed 1 vs h)
 
 -- limit: how many records the table has room for; lent: how many numbers are lent for it
@@ -82,7 +80,7 @@ module _ (c : Class) (spool : List ℕ) (limit lent : ℕ) (l : Layout) where
   pub record Came (i : ℕ) (d : Desk) (t : List ℤ) : Type 0 where
     pub laid : l ≡ layout_of (volumes_of spool)
     pub all : List P.Volume
-    pub are : volumes_of spool ≡ some all
+    pub are : volumes_of spool ≡ Some all
     pub lined : AllLined all
     pub long : length t ≡ lent
     pub left : List P.Volume
@@ -108,7 +106,7 @@ module _ (c : Class) (spool : List ℕ) (limit lent : ℕ) (l : Layout) where
       let (vs, z) = some-volumes spool l q h in
       subst (λ (x : Now). Came 0 (first_desk x) t) (sym b) (go vs z (sound-volumes spool vs z (ap (first_unsound spool) (sym q) ∙ w)))
     where
-      go : (vs : List P.Volume) → volumes_of spool ≡ some vs → AllLined vs → Came 0 (first_desk nothing_now) t
+      go : (vs : List P.Volume) → volumes_of spool ≡ Some vs → AllLined vs → Came 0 (first_desk nothing_now) t
       go [] z y = absurd (let x = volumes-laid spool [] z in omega (arith, x.some-volume))
       go (v ∷ us) z y = record {
         laid = q;
@@ -227,18 +225,18 @@ module _ (c : Class) (spool : List ℕ) (limit lent : ℕ) (l : Layout) where
         pub volume_ready : limit + 2 ≤ 18446744073709551615 → VolumeReady c spool body vol limit d t
         volume_ready m = record { set = w.set; lines = here.lines.0.lines; at = at-start; stands = stands_here; kept = here.kept; countable = m }
 
-        module _ (following : List ℕ) (f : following ≡ name_behind spool l.places l.count i) (d₁ : Now → Desk) (t₁ : List ℤ) (r : Through)
+        module _ (following : List ℕ) (f : following ≡ name_behind spool l.places l.count i) (d₁ : Now → Desk) (t₁ : List ℤ) (r : Result Now Refusal)
             (promise : VolumePromise c spool body vol limit following d t d₁ t₁ r) where
-          abbrev Out : List ℕ → Through → Type 0
+          abbrev Out : List ℕ → Result Now Refusal → Type 0
           Out x = VolumeOut c spool body vol (is_nil x) limit (top w.set 0) (lines_of_volume (i + 1) x start here.lines.0.lines) more-lines d₁ t₁
 
           out : Out (next_name here.more) r
           out = subst (λ (x : List ℕ). Out x r) (f ∙ behind-is) (promise w.set here.lines.0.lines more-lines at-start stands_here here.kept)
 
-          pub stops : (x : Refusal) → r ≡ T.Stop x → outcome_of e spool ≡ refused x.number x.volume x.line
+          pub stops : (x : Refusal) → r ≡ Err x → outcome_of e spool ≡ refused x.number x.volume x.line
           stops x q = outcome-lined e spool w.all w.are w.lined ∙ run-here ∙ subst (Out (next_name here.more)) q out
 
-          pub goes : (n : Now) → r ≡ T.Go n → length t₁ ≡ length t → (d₁ n).now ≡ n → Came (i + 1) (d₁ n) t₁
+          pub goes : (n : Now) → r ≡ Ok n → length t₁ ≡ length t → (d₁ n).now ≡ n → Came (i + 1) (d₁ n) t₁
           goes n q m is =
               let (s, x, z, o) = subst (Out (next_name here.more)) q out in
               let last : is_nil (next_name here.more) ≡ is_nil here.more = next-nil (here.one.place + length here.one.body) here.more here.grown.2 in
@@ -287,7 +285,7 @@ module _ (c : Class) (spool : List ℕ) (limit lent : ℕ) (l : Layout) where
       accepts = outcome-lined e spool w.all w.are w.lined ∙ run-ended
 
       pub counts-records : d.now.records ≡ length (records_of c w.set)
-      counts-records = sym (taken-counts c c (some limit) (lines_over 1 w.all w.lined) w.set run-ended ∙ kept-ended.taken)
+      counts-records = sym (taken-counts c c (Some limit) (lines_over 1 w.all w.lined) w.set run-ended ∙ kept-ended.taken)
 
       -- where there is a table
       pub lays-records : lent / width ≡ limit → t ≡ table_of lent (records_of c w.set)

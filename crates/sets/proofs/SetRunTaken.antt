@@ -1,8 +1,8 @@
 -- A line takes two records at most: so an accepted set has at most two for each of its lines.
+use Rattle.std.specs.Prelude.{Some}
 use Prim.Native.Nat.{ℕ, zero, suc, ◌+◌, ◌*◌, ◌≤◌}
 use mathlib.Core.Bool.{Bool, true, false, ◌&&◌, ◌||◌, not}
 use mathlib.Core.List.{List, [], ◌∷◌, map}
-use mathlib.Core.Option.{some}
 use mathlib.Core.Path.{◌≡◌, refl, sym, subst}
 use native.Mathlib.Omega.{arith}
 use lib.Dec.{eqb, leb, ltb}
@@ -99,8 +99,8 @@ module _ (e : Env) (l : Line) (s : Set) where
   few-symbol : (y : Symbol) (f : Form) → On Few (on_symbol s y f)
   few-symbol y f =
       on-by_act Few _ _ _ _ (act (known_of s) symbol_table (digits_of (define_range s)) (rows_there y.own) f) none-taken
-      (λ j v. on-unless Few (new_name s (symbol_own (set y.own j (some v)) y)) 15 _ λ _. none-taken)
-      (λ i j v _. few-inner (symbol_own (set y.own j (some v)) y) i)
+      (λ j v. on-unless Few (new_name s (symbol_own (set y.own j (Some v)) y)) 15 _ λ _. none-taken)
+      (λ i j v _. few-inner (symbol_own (set y.own j (Some v)) y) i)
       none-taken
 
   few-hide : (y : Symbol) (ps : List Point) (f : Form) → On Few (on_hide e l s y ps f)

@@ -1,14 +1,12 @@
 -- No spool has so many records as the rewriter counts to: the reading is that without a limit.
+use Rattle.std.specs.Prelude.{Option, Some, None, Result, Ok, Err}
 use Prim.Native.Nat.{ℕ, zero, suc, ◌+◌, ◌*◌, ◌≤◌}
 use mathlib.Core.List.{List, [], ◌∷◌}
-use mathlib.Core.Option.{Option, none, some}
 use mathlib.Core.Path.{◌≡◌, refl, sym, ◌∙◌, ap}
 use native.Mathlib.Omega.{arith}
 use lib.IntN.{ℤ}
 use lib.ListN.{length}
 use Rattle.rules.specs.declared.Class.{Class}
-use Rattle.rules.specs.declared.Answer.{Answer}
-use Rattle.rules.specs.declared.Answer.TheVariants as A
 use Rattle.rules.specs.RefusalNumbers.{Got}
 use Rattle.rules.specs.Sets.{nothing_yet}
 use Rattle.rules.specs.Spool as P
@@ -26,6 +24,7 @@ use Rattle.sets.specs.SetReading.{SetOut, most_records, Judged}
 use Rattle.sets.proofs.SetRunTaken.{taken_in, Few, few-step}
 use Rattle.sets.proofs.SetRunVolumes.{volumes_grow, over-few}
 use Rattle.sets.proofs.SetRun.{outcome-is, outcome_unsound, outcome-lined}
+use Rattle.rules.specs.declared.Refusal.{Refusal}
 
 -- a limit that leaves each line room for two records is never reached
 same-run : (c : Class) (m : ℕ) (st : State) (ls : List Line) → taken_in st + 2 * length ls ≤ m → run (limited_to c m) st ls ≡ run (unlimited c) st ls
@@ -43,9 +42,9 @@ judge-same : (c : Class) (spool : List ℕ) → outcome_of (limited_to c most_re
 judge-same c spool = by-volumes (volumes_of spool) refl
   where
     by-volumes : (o : Option (List P.Volume)) → volumes_of spool ≡ o → outcome_of (limited_to c most_records) spool ≡ outcome_of (unlimited c) spool
-    by-volumes none z =
+    by-volumes None z =
         outcome-is (limited_to c most_records) spool ∙ ap (outcome_of_volumes (limited_to c most_records)) z ∙ sym (outcome-is (unlimited c) spool ∙ ap (outcome_of_volumes (unlimited c)) z)
-    by-volumes (some vs) z = by-sound (first_unsound spool (layout_of (volumes_of spool))) refl
+    by-volumes (Some vs) z = by-sound (first_unsound spool (layout_of (volumes_of spool))) refl
       where
         by-sound : (n : ℕ) → first_unsound spool (layout_of (volumes_of spool)) ≡ n → outcome_of (limited_to c most_records) spool ≡ outcome_of (unlimited c) spool
         by-sound zero q =
@@ -60,6 +59,6 @@ unfolding rewrite_outcome
 judge-is spool = sym (judge-same full_class spool)
 
 -- what the reading of the set says of it
-pub judged : (spool : List ℕ) (t₀ t₁ : List ℤ) (r : Answer) → SetOut full_class spool most_records t₀ t₁ r → Judged spool r
-judged spool t₀ t₁ (A.Accepted n) o = let (s, p, m, u) = o in (s, judge-is spool ∙ p)
-judged spool t₀ t₁ (A.Refused f) o = judge-is spool ∙ o
+pub judged : (spool : List ℕ) (t₀ t₁ : List ℤ) (r : Result ℕ Refusal) → SetOut full_class spool most_records t₀ t₁ r → Judged spool r
+judged spool t₀ t₁ (Ok n) o = let (s, p, m, u) = o in (s, judge-is spool ∙ p)
+judged spool t₀ t₁ (Err f) o = judge-is spool ∙ o

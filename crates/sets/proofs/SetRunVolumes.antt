@@ -1,8 +1,8 @@
 -- The volumes of a spool one after the other: their places grow, each has a name, and they have few lines.
+use Rattle.std.specs.Prelude.{Option, Some, None}
 use Prim.Native.Nat.{ℕ, zero, suc, ◌+◌, ◌*◌, ◌≤◌}
 use mathlib.Core.Bool.{Bool, true, false, cond, ◌&&◌, not}
 use mathlib.Core.List.{List, [], ◌∷◌}
-use mathlib.Core.Option.{Option, none, some}
 use mathlib.Core.Path.{◌≡◌, refl, ap, subst}
 use native.Mathlib.Omega.{arith}
 use lib.Dec.{eqb, leb, ltb}
@@ -29,18 +29,18 @@ good-name : (a : List ℕ) → good_name a ≡ true → is_nil (name_of a) ≡ f
 good-name a g =
     not-true (is_nil (name_of a)) (and_left (not (is_nil (name_of a))) (all name_byte (name_of a)) (and_left (not (is_nil (name_of a)) && all name_byte (name_of a)) (same a (padded_name (name_of a))) g))
 
-choose-some : {A : Type 0} (t : Bool) (o : Option A) (a : A) → choose t (λ _. o) (λ _. none) ≡ some a → (t ≡ true) × (o ≡ some a)
+choose-some : {A : Type 0} (t : Bool) (o : Option A) (a : A) → choose t (λ _. o) (λ _. None) ≡ Some a → (t ≡ true) × (o ≡ Some a)
 choose-some true o a e = (refl, e)
 choose-some false o a e = none-some e
 
-grown : (k at : ℕ) (s : List ℕ) (vs : List Volume) → volumes_from k at s ≡ some vs → Grown at vs
+grown : (k at : ℕ) (s : List ℕ) (vs : List Volume) → volumes_from k at s ≡ Some vs → Grown at vs
 grown zero at [] vs e = let q : [] ≡ vs = cc in subst (Grown at) q tt
 grown zero at (b ∷ s) vs e = none-some e
 grown (suc k) at [] vs e = let q : [] ≡ vs = cc in subst (Grown at) q tt
 grown (suc k) at (b ∷ s) vs e = go (take 12 (b ∷ s)) (drop 12 (b ∷ s)) e (λ m u us. grown k m u us)
   where
-    go : (h r : List ℕ) → choose (good_head h r) (λ _. map_o (λ vs. volume_at at h r ∷ vs) (volumes_from k (at + 12 + length_of h) (drop (length_of h) r))) (λ _. none) ≡ some vs
-        → ((m : ℕ) (u : List ℕ) (us : List Volume) → volumes_from k m u ≡ some us → Grown m us) → Grown at vs
+    go : (h r : List ℕ) → choose (good_head h r) (λ _. map_o (λ vs. volume_at at h r ∷ vs) (volumes_from k (at + 12 + length_of h) (drop (length_of h) r))) (λ _. None) ≡ Some vs
+        → ((m : ℕ) (u : List ℕ) (us : List Volume) → volumes_from k m u ≡ Some us → Grown m us) → Grown at vs
     go h r z ih =
         let (g, w) = choose-some (good_head h r) (map_o (λ vs. volume_at at h r ∷ vs) (volumes_from k (at + 12 + length_of h) (drop (length_of h) r))) vs z in
         let (us, p, q) = map-some (λ vs. volume_at at h r ∷ vs) (volumes_from k (at + 12 + length_of h) (drop (length_of h) r)) vs w in
@@ -50,15 +50,15 @@ grown (suc k) at (b ∷ s) vs e = go (take 12 (b ∷ s)) (drop 12 (b ∷ s)) e (
         let here : at + 12 + length_of h ≡ at + 12 + length (take (length_of h) r) = omega (arith, size) in
         subst (Grown at) q (omega arith, good-name (take 8 (drop 2 h)) (head-name h r g), subst (λ (m : ℕ). Grown m us) here (ih (at + 12 + length_of h) (drop (length_of h) r) us p))
 
-sound-some : (o : Option (List Volume)) (vs : List Volume) → sound_volumes o ≡ some vs → o ≡ some vs
-sound-some none vs e = none-some e
-sound-some (some us) vs e = go (not (is_nil us) && distinct (names_of us)) e
+sound-some : (o : Option (List Volume)) (vs : List Volume) → sound_volumes o ≡ Some vs → o ≡ Some vs
+sound-some None vs e = none-some e
+sound-some (Some us) vs e = go (not (is_nil us) && distinct (names_of us)) e
   where
-    go : (t : Bool) → cond t (some us) none ≡ some vs → some us ≡ some vs
+    go : (t : Bool) → cond t (Some us) None ≡ Some vs → Some us ≡ Some vs
     go true z = z
     go false z = none-some z
 
-pub volumes_grow : (s : List ℕ) (vs : List Volume) → volumes_of s ≡ some vs → Grown 0 vs
+pub volumes_grow : (s : List ℕ) (vs : List Volume) → volumes_of s ≡ Some vs → Grown 0 vs
 unfolding volumes_of
 volumes_grow s vs e =
     let (g, w) = choose-some (within 1 most_bytes (length s)) (sound_volumes (volumes_from most_volumes 0 s)) vs e in
@@ -70,21 +70,21 @@ next-nil at [] g = refl
 next-nil at (v ∷ vs) g = g.1
 
 -- ── how many lines ──
-head-line : (b : ℕ) (o : Option (List (List ℕ))) (ls : List (List ℕ)) (n : ℕ) → head_line b o ≡ some ls → ((us : List (List ℕ)) → o ≡ some us → 2 * length us ≤ n) → 2 * length ls ≤ n
-head-line b none ls n e h = none-some e
-head-line b (some []) ls n e h = none-some e
-head-line b (some (u ∷ us)) ls n e h = let q : (b ∷ u) ∷ us ≡ ls = cc in subst (λ (x : List (List ℕ)). 2 * length x ≤ n) q (omega (arith, h (u ∷ us) refl))
+head-line : (b : ℕ) (o : Option (List (List ℕ))) (ls : List (List ℕ)) (n : ℕ) → head_line b o ≡ Some ls → ((us : List (List ℕ)) → o ≡ Some us → 2 * length us ≤ n) → 2 * length ls ≤ n
+head-line b None ls n e h = none-some e
+head-line b (Some []) ls n e h = none-some e
+head-line b (Some (u ∷ us)) ls n e h = let q : (b ∷ u) ∷ us ≡ ls = cc in subst (λ (x : List (List ℕ)). 2 * length x ≤ n) q (omega (arith, h (u ∷ us) refl))
 
 -- each has two bytes at its end; x: the first of them has been
 abbrev end_bytes : Bool → ℕ
 end_bytes true = 1
 end_bytes false = 0
 
-few-lines : (x : Bool) (s : List ℕ) (ls : List (List ℕ)) → lines_from x s ≡ some ls → 2 * length ls ≤ length s + end_bytes x
+few-lines : (x : Bool) (s : List ℕ) (ls : List (List ℕ)) → lines_from x s ≡ Some ls → 2 * length ls ≤ length s + end_bytes x
 few-lines true [] ls e = none-some e
 few-lines true (b ∷ s) ls e = go (eqb b 10) e (λ us z. few-lines false s us z)
   where
-    go : (t : Bool) → choose t (λ _. map_o (λ ls. [] ∷ ls) (lines_from false s)) (λ _. none) ≡ some ls → ((us : List (List ℕ)) → lines_from false s ≡ some us → 2 * length us ≤ length s + 0)
+    go : (t : Bool) → choose t (λ _. map_o (λ ls. [] ∷ ls) (lines_from false s)) (λ _. None) ≡ Some ls → ((us : List (List ℕ)) → lines_from false s ≡ Some us → 2 * length us ≤ length s + 0)
         → 2 * length ls ≤ length (b ∷ s) + 1
     go true z ih =
         let (us, p, q) = map-some (λ ls. [] ∷ ls) (lines_from false s) ls z in
@@ -94,8 +94,8 @@ few-lines false [] ls e = none-some e
 few-lines false (b ∷ s) ls e = go (eqb b 13) (eqb b 26) (eqb b 10) (is_nil s) e (λ us z. few-lines true s us z) (λ us z. few-lines false s us z)
   where
     go : (x y z t : Bool)
-        → choose x (λ _. lines_from true s) (λ _. choose y (λ _. cond t (some []) none) (λ _. choose z (λ _. none) (λ _. head_line b (lines_from false s)))) ≡ some ls
-        → ((us : List (List ℕ)) → lines_from true s ≡ some us → 2 * length us ≤ length s + 1) → ((us : List (List ℕ)) → lines_from false s ≡ some us → 2 * length us ≤ length s + 0)
+        → choose x (λ _. lines_from true s) (λ _. choose y (λ _. cond t (Some []) None) (λ _. choose z (λ _. None) (λ _. head_line b (lines_from false s)))) ≡ Some ls
+        → ((us : List (List ℕ)) → lines_from true s ≡ Some us → 2 * length us ≤ length s + 1) → ((us : List (List ℕ)) → lines_from false s ≡ Some us → 2 * length us ≤ length s + 0)
         → 2 * length ls ≤ length (b ∷ s) + 0
     go true y z t w ih jh = omega (arith, ih ls w)
     go false true z true w ih jh = let q : [] ≡ ls = cc in subst (λ (x : List (List ℕ)). 2 * length x ≤ length (b ∷ s) + 0) q (omega arith)

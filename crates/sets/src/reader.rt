@@ -4,16 +4,13 @@ ghost use Rattle.rules.specs.Answers.{read_answer, read_table};
 ghost use Rattle.rules.specs.RecordTable.{width};
 ghost use Rattle.sets.specs.SetReading.{nothing_now, name_behind, SetOut, Judged};
 
-use account::{
-    BLOCK_TOP, MOST_LAYERS, MOST_SERIALS, MOST_SYMBOLS, MaybeClass, Now, TALLY_LENGTH, Through,
-    Volume,
-};
+use account::{BLOCK_TOP, MOST_LAYERS, MOST_SERIALS, MOST_SYMBOLS, Now, TALLY_LENGTH, Volume};
 use entries::names::part;
 use groundwork::classes::class_of;
 use groundwork::table::clear;
 use lines::ends::first_unsound;
 use lines::spool::{volume_name, volumes};
-use rules::{Answer, Class, Digits, Refusal, Span, WIDTH};
+use rules::{Class, Digits, Refusal, Span, WIDTH};
 use steps::read_volume;
 
 fn nothing_yet() -> Now
@@ -43,14 +40,14 @@ fn name_behind(s: &[u8], places: [u32; 12], count: usize, i: usize) -> &[u8]
 
 // The volumes one after the other. Their records go into a table of zeros that has room for so many; where `t` is shorter, they are counted
 // and not kept.
-fn read_set(s: &[u8], class: Class, limit: usize, t: &mut [i64]) -> Answer
+fn read_set(s: &[u8], class: Class, limit: usize, t: &mut [i64]) -> Result<u32, Refusal>
     requires { (t.old ≡ replicate (length t.old) (pos 0)) × (limit + 2 ≤ 18446744073709551615) }
     ensures { SetOut class s.now limit t.old t.new result }
 {
     let l = volumes(s);
     let count = l.count as usize;
     if count == 0 {
-        return Answer::Refused(Refusal {
+        return Err(Refusal {
             number: 2,
             volume: 0,
             line: 0,
@@ -58,7 +55,7 @@ fn read_set(s: &[u8], class: Class, limit: usize, t: &mut [i64]) -> Answer
     }
     let unsound = first_unsound(s, l);
     if unsound != 0 {
-        return Answer::Refused(Refusal {
+        return Err(Refusal {
             number: 3,
             volume: unsound as u8,
             line: 0,
@@ -103,38 +100,38 @@ fn read_set(s: &[u8], class: Class, limit: usize, t: &mut [i64]) -> Answer
             t,
         );
         match r {
-            Through::Go(n) => {
+            Ok(n) => {
                 here = n;
             }
-            Through::Stop(f) => {
-                return Answer::Refused(f);
+            Err(f) => {
+                return Err(f);
             }
         }
         i += 1;
     }
-    Answer::Accepted(here.records as u32)
+    Ok(here.records as u32)
 }
 
 // A spool, a range class with its wire part, and a lent table: the answer, and the records in the table. Refused, the table is all zeros; accepted, it is zero
 // behind the last record, whatever it held before.
-pub fn read(s: &[u8], class: u64, wire: u64, t: &mut [i64]) -> Answer
+pub fn read(s: &[u8], class: u64, wire: u64, t: &mut [i64]) -> Result<u32, Refusal>
     ensures { (result ≡ read_answer class wire (length t.old) s.now) × (t.new ≡ read_table class wire (length t.old) s.now) }
 {
     let limit = t.len() / WIDTH;
     clear(t);
     match class_of(class, wire) {
-        MaybeClass::Not => Answer::Refused(Refusal {
+        None => Err(Refusal {
             number: 1,
             volume: 0,
             line: 0,
         }),
-        MaybeClass::Is(c) => {
+        Some(c) => {
             let r = read_set(s, c, limit, t);
             match r {
-                Answer::Accepted(n) => Answer::Accepted(n),
-                Answer::Refused(f) => {
+                Ok(n) => Ok(n),
+                Err(f) => {
                     clear(t);
-                    Answer::Refused(f)
+                    Err(f)
                 }
             }
         }
@@ -143,16 +140,16 @@ pub fn read(s: &[u8], class: u64, wire: u64, t: &mut [i64]) -> Answer
 
 // A spool, a range class with its wire part, and a number of records: the answer of a reader that is lent a table for so many. They are counted
 // and not kept, so that whoever asks only for the answer needs no room for a table.
-pub fn check(s: &[u8], class: u64, wire: u64, records: u32) -> Answer
+pub fn check(s: &[u8], class: u64, wire: u64, records: u32) -> Result<u32, Refusal>
     ensures { result ≡ read_answer class wire (records * width) s.now }
 {
     match class_of(class, wire) {
-        MaybeClass::Not => Answer::Refused(Refusal {
+        None => Err(Refusal {
             number: 1,
             volume: 0,
             line: 0,
         }),
-        MaybeClass::Is(c) => {
+        Some(c) => {
             let mut nothing = [0i64; 1];
             read_set(s, c, records as usize, &mut nothing)
         }
@@ -163,7 +160,7 @@ pub fn check(s: &[u8], class: u64, wire: u64, records: u32) -> Answer
 const MOST_RECORDS: usize = 65536;
 
 // A spool at the full class, whose records are counted and not kept: how many they are, or the refusal.
-pub(crate) fn judge(s: &[u8]) -> Answer
+pub(crate) fn judge(s: &[u8]) -> Result<u32, Refusal>
     ensures { Judged s.now result }
 {
     let mut nothing = [0i64; 1];

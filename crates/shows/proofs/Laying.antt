@@ -1,4 +1,5 @@
 -- A line laid number by number, each with the byte behind it.
+use Rattle.std.specs.Prelude.{Result, Ok, Err}
 use Prim.Native.Nat.{ℕ, suc, ◌+◌, ◌-◌, ◌<◌, ◌≤◌}
 use mathlib.Core.Path.{◌≡◌, refl, ap, ap₂, sym, subst, ◌∙◌}
 use mathlib.Core.List.{List, [], ◌∷◌, ◌++◌, map, append-nil, append_assoc}
@@ -16,15 +17,13 @@ use mir.Syntax.{w64}
 use mir.Val.{SFits, to_z, of_z}
 use mir.Facts.{to_z-of_z}
 use Rattle.rules.specs.declared.Refusal.{Refusal}
-use Rattle.rules.specs.declared.Answer.{Answer}
-use Rattle.rules.specs.declared.Answer.TheVariants as A
 use Rattle.rules.specs.Answers.{show_number, show_signed, print_line, first_line}
-use Rattle.leaves.specs.declared.Wrote.{Wrote}
-use Rattle.leaves.specs.declared.Wrote.TheVariants as W
 use Rattle.leaves.specs.Writing.{Puts}
 use Rattle.leaves.proofs.Scan.{rest_all}
 use Rattle.leaves.proofs.Written.{fits, full, was-full, was-bytes}
 use Rattle.shows.specs.Laid.{Lays}
+use Rattle.leaves.specs.declared.NoRoom.{NoRoom}
+use Rattle.leaves.specs.NoRoom.{no_room}
 
 -- ── a number's sign ──
 pub shown-below : (z : ℤ) → lt_z z (pos 0) ≡ true → show_signed z ≡ 45 ∷ show_number (suc (mag z))
@@ -36,20 +35,20 @@ shown-not-below (pos n) e = refl
 shown-not-below (negsuc n) e = absurd (let q : ◌≡◌ {A = ℕ} 0 1 = cc in omega arith)
 
 -- ── a text and the byte behind it, where the text was lent one byte less ──
-module _ (text out after : List ℕ) (r : Wrote) (h : length out ≡ 0 → ⊥) (p : Puts text (take (length out - 1) out) after r) (b : ℕ) where
+module _ (text out after : List ℕ) (r : Result ℕ NoRoom) (h : length out ≡ 0 → ⊥) (p : Puts text (take (length out - 1) out) after r) (b : ℕ) where
   short : length (take (length out - 1) out) ≡ length out - 1
   short = length-take-le (length out - 1) out (omega arith)
 
   longer : length (text ++ b ∷ []) ≡ length text + 1
   longer = omega (arith, length-append text (b ∷ []))
 
-  pub ended-full : r ≡ W.Full → Puts (text ++ b ∷ []) out (after ++ drop (length out - 1) out) W.Full
+  pub ended-full : r ≡ (Err no_room) → Puts (text ++ b ∷ []) out (after ++ drop (length out - 1) out) (Err no_room)
   ended-full e =
       let w = was-full text (take (length out - 1) out) after (subst (Puts text (take (length out - 1) out) after) e p) in
       let less : length out < length text + 1 = omega (arith, w.0, short) in
       rw (w.1, take-append-drop (length out - 1) out) (full (text ++ b ∷ []) out (length text + 1) longer less)
 
-  module _ (n : ℕ) (e : r ≡ W.Bytes n) where
+  module _ (n : ℕ) (e : r ≡ Ok n) where
     parts : (length text ≡ n) × (length text ≤ length (take (length out - 1) out)) × (after ≡ text ++ drop (length text) (take (length out - 1) out))
     parts = was-bytes text (take (length out - 1) out) after n (subst (Puts text (take (length out - 1) out) after) e p)
 
@@ -72,7 +71,7 @@ module _ (text out after : List ℕ) (r : Wrote) (h : length out ≡ 0 → ⊥) 
         let one : suc n ≡ n + 1 = omega arith in
         ap (λ (k : ℕ). drop k (text ++ drop n out)) one ∙ sym (drop-drop 1 n (text ++ drop n out)) ∙ ap (drop 1) (drop_at text (drop n out) n parts.0) ∙ drop-drop 1 n out
 
-    pub ended-bytes : Puts (text ++ b ∷ []) out (set (after ++ drop (length out - 1) out) n b) (W.Bytes (n + 1))
+    pub ended-bytes : Puts (text ++ b ∷ []) out (set (after ++ drop (length out - 1) out) n b) (Ok (n + 1))
     ended-bytes =
         fits (text ++ b ∷ []) out (n + 1) (omega (arith, longer, parts.0)) (omega (arith, ended-room)) (set (after ++ drop (length out - 1) out) n b)
         (ap (λ (s : List ℕ). set s n b) numbered
@@ -83,15 +82,15 @@ module _ (text out after : List ℕ) (r : Wrote) (h : length out ≡ 0 → ⊥) 
 
 -- ── a line ──
 module _ (text before after : List ℕ) where
-  lays-bytes : (n : ℕ) → length text ≡ n → n ≤ length before → after ≡ text ++ drop n before → Lays text before after (W.Bytes n)
+  lays-bytes : (n : ℕ) → length text ≡ n → n ≤ length before → after ≡ text ++ drop n before → Lays text before after (Ok n)
   lays-bytes n e h m = record { answer = rw (e, le-leb n (length before) h); memory = m ∙ sym (rw (e, le-leb n (length before) h)) }
 
-  lays-full : length before < length text → after ≡ replicate (length before) 0 → Lays text before after W.Full
+  lays-full : length before < length text → after ≡ replicate (length before) 0 → Lays text before after (Err no_room)
   lays-full h m =
       record { answer = rw (lt-leb (length text) (length before) h); memory = m ∙ sym (rw (lt-leb (length text) (length before) h)) }
 
 -- of no number
-pub empty-lays : (before after : List ℕ) (r : Wrote) → Puts (10 ∷ []) before after r → Lays (10 ∷ []) before after r
+pub empty-lays : (before after : List ℕ) (r : Result ℕ NoRoom) → Puts (10 ∷ []) before after r → Lays (10 ∷ []) before after r
 empty-lays [] after r p = record { answer = p.answer; memory = p.memory }
 empty-lays (b ∷ s) after r p =
     let t : leb 1 (suc (length s)) ≡ true = le-leb 1 (suc (length s)) (omega arith) in
@@ -137,14 +136,14 @@ pub laid_none : (zs : List ℤ) (out : List ℕ) → (length zs ≡ 0 → ⊥) �
 laid_none zs out h = record { some = h; few = omega arith; room = omega arith; same = refl; text = refl; rest = refl }
 
 module _ (zs : List ℤ) (before out : List ℕ) (at i : ℕ) (g : Laid zs before out at i) where
-  pub laid-all : length zs ≤ i → Lays (print_line zs) before out (W.Bytes at)
+  pub laid-all : length zs ≤ i → Lays (print_line zs) before out (Ok at)
   laid-all h =
       let none : ended (drop i zs) ≡ [] = ap ended (drop_of_length-le zs {i = i} h) in
       let whole : print_line zs ≡ take at out = line-is zs g.some ∙ g.text ∙ ap (λ (s : List ℕ). take at out ++ s) none ∙ append-nil (take at out) in
       let there : out ≡ take at out ++ drop at before = sym (take-append-drop at out) ∙ ap (λ (s : List ℕ). take at out ++ s) g.rest in
-      subst (λ (s : List ℕ). Lays s before out (W.Bytes at)) (sym whole) (lays-bytes (take at out) before out at (length-take-le at out g.room) (omega (arith, g.room, g.same)) there)
+      subst (λ (s : List ℕ). Lays s before out (Ok at)) (sym whole) (lays-bytes (take at out) before out at (length-take-le at out g.room) (omega (arith, g.room, g.same)) there)
 
-  module _ (h : i < length zs) (z : ℤ) (ez : z ≡ get_or zs i (pos 0)) (b : ℕ) (eb : b ≡ cond (eqb (length zs - i - 1) 0) 10 32) (after : List ℕ) (r : Wrote)
+  module _ (h : i < length zs) (z : ℤ) (ez : z ≡ get_or zs i (pos 0)) (b : ℕ) (eb : b ≡ cond (eqb (length zs - i - 1) 0) 10 32) (after : List ℕ) (r : Result ℕ NoRoom)
       (p : Puts (show_signed z ++ b ∷ []) (take (length out - at) (drop at out)) after r) where
     left : length (drop (suc i) zs) ≡ length zs - i - 1
     left = omega (arith, length-drop (suc i) zs)
@@ -162,7 +161,7 @@ module _ (zs : List ℤ) (before out : List ℕ) (at i : ℕ) (g : Laid zs befor
     written : Puts (show_signed z ++ b ∷ []) (drop at out) after r
     written = subst (λ (s : List ℕ). Puts (show_signed z ++ b ∷ []) s after r) (rest_all at out) p
 
-    pub line-full : r ≡ W.Full → (cleared : List ℕ) → cleared ≡ replicate (length (put_mid at (length out - at) out after)) 0 → Lays (print_line zs) before cleared W.Full
+    pub line-full : r ≡ (Err no_room) → (cleared : List ℕ) → cleared ≡ replicate (length (put_mid at (length out - at) out after)) 0 → Lays (print_line zs) before cleared (Err no_room)
     line-full e cleared m =
         let w = was-full (show_signed z ++ b ∷ []) (drop at out) after (subst (Puts (show_signed z ++ b ∷ []) (drop at out) after) e written) in
         let kept : length (put_mid at (length out - at) out after) ≡ length out = same_len_mid at (length out - at) out after (ap (λ (s : List ℕ). length s) (w.1 ∙ sym (rest_all at out))) in
@@ -173,7 +172,7 @@ module _ (zs : List ℤ) (before out : List ℕ) (at i : ℕ) (g : Laid zs befor
         let less : length before < length (ended zs) = omega (arith, w.0, length-drop at out, long, g.same, g.room) in
         lays-full (print_line zs) before cleared (rw (line-is zs g.some) less) (m ∙ ap (λ (k : ℕ). replicate k 0) (kept ∙ g.same))
 
-    module _ (n : ℕ) (e : r ≡ W.Bytes n) where
+    module _ (n : ℕ) (e : r ≡ Ok n) where
       there : (length (show_signed z ++ b ∷ []) ≡ n) × (length (show_signed z ++ b ∷ []) ≤ length (drop at out)) × (after ≡ (show_signed z ++ b ∷ []) ++ drop (length (show_signed z ++ b ∷ [])) (drop at out))
       there = was-bytes (show_signed z ++ b ∷ []) (drop at out) after n (subst (Puts (show_signed z ++ b ∷ []) (drop at out) after) e written)
 
@@ -209,10 +208,10 @@ module _ (zs : List ℤ) (before out : List ℕ) (at i : ℕ) (g : Laid zs befor
           }
 
 -- ── an answer's numbers, as the machine has them ──
-module _ (a : Answer) where
-  pub accepted-line : (n : ℕ) → SFits w64 (pos n) → a ≡ A.Accepted n → pos 0 ∷ pos 0 ∷ pos 0 ∷ to_z w64 (of_z w64 (pos n)) ∷ [] ≡ first_line a
+module _ (a : Result ℕ Refusal) where
+  pub accepted-line : (n : ℕ) → SFits w64 (pos n) → a ≡ Ok n → pos 0 ∷ pos 0 ∷ pos 0 ∷ to_z w64 (of_z w64 (pos n)) ∷ [] ≡ first_line a
   accepted-line n f e = ap (λ (z : ℤ). pos 0 ∷ pos 0 ∷ pos 0 ∷ z ∷ []) (to_z-of_z f) ∙ sym (ap first_line e)
 
-  pub refused-line : (r : Refusal) → SFits w64 (pos r.number) → SFits w64 (pos r.volume) → SFits w64 (pos r.line) → a ≡ A.Refused r
+  pub refused-line : (r : Refusal) → SFits w64 (pos r.number) → SFits w64 (pos r.volume) → SFits w64 (pos r.line) → a ≡ Err r
       → to_z w64 (of_z w64 (pos r.number)) ∷ to_z w64 (of_z w64 (pos r.volume)) ∷ to_z w64 (of_z w64 (pos r.line)) ∷ pos 0 ∷ [] ≡ first_line a
   refused-line r f g h e = rw (to_z-of_z f, to_z-of_z g, to_z-of_z h) (sym (ap first_line e))

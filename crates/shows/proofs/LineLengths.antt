@@ -1,5 +1,6 @@
 -- 21 bytes for each number hold any line: 20 digits, or a sign and 19, and the byte behind them. So 84 hold the line of any answer, 672 that
 -- of any record, and neither is refused for want of room.
+use Rattle.std.specs.Prelude.{Result, Ok}
 use Prim.Native.Nat.{ℕ, zero, suc, ◌+◌, ◌*◌, ◌/◌, ◌%◌, ◌^◌, ◌<◌, ◌≤◌}
 use mathlib.Core.Path.{◌≡◌, ap, ◌∙◌}
 use mathlib.Core.List.{List, [], ◌∷◌}
@@ -13,12 +14,11 @@ use mir.Syntax.{w64}
 use mir.Val.{SFits}
 use Rattle.rules.specs.Numbers.{fixed_onto, fixed, trim}
 use Rattle.rules.specs.Answers.{answer_number, answer_volume, answer_line, answer_count, show_number, show_signed, print_line, first_line}
-use Rattle.rules.specs.declared.Answer.{Answer}
 use Rattle.leaves.proofs.Written.{fixed-length}
-use Rattle.leaves.specs.declared.Wrote.{Wrote}
-use Rattle.leaves.specs.declared.Wrote.TheVariants as W
 use Rattle.shows.specs.Laid.{Lays}
 use Rattle.shows.proofs.Laying.{end_of, ended, ended-line}
+use Rattle.leaves.specs.declared.NoRoom.{NoRoom}
+use Rattle.rules.specs.declared.Refusal.{Refusal}
 
 trim-short : (s : List ℕ) → length (trim s) ≤ length s
 trim-short [] = omega arith
@@ -64,21 +64,21 @@ ended-most : (zs : List ℤ) → Short zs → length (ended zs) ≤ 21 * length 
 ended-most [] f = omega arith
 ended-most (z ∷ zs) f = omega (arith, length-append (show_signed z) (end_of zs ∷ ended zs), f.0, ended-most zs f.1)
 
-module _ (z : ℤ) (zs : List ℤ) (f : Short (z ∷ zs)) (before after : List ℕ) (r : Wrote) where
-  line-fits : 21 * length (z ∷ zs) ≤ length before → Lays (print_line (z ∷ zs)) before after r → r ≡ W.Bytes (length (print_line (z ∷ zs)))
+module _ (z : ℤ) (zs : List ℤ) (f : Short (z ∷ zs)) (before after : List ℕ) (r : Result ℕ NoRoom) where
+  line-fits : 21 * length (z ∷ zs) ≤ length before → Lays (print_line (z ∷ zs)) before after r → r ≡ Ok (length (print_line (z ∷ zs)))
   line-fits h l =
       let most : length (print_line (z ∷ zs)) ≤ length before = rw (ended-line z zs) (omega (arith, ended-most (z ∷ zs) f)) in
       l.answer ∙ rw (le-leb (length (print_line (z ∷ zs))) (length before) most)
 
 -- 672 bytes hold any record's line
-pub record-fits : (zs : List ℤ) → Fit zs → length zs ≡ 32 → (before after : List ℕ) (r : Wrote) → length before ≡ 672 → Lays (print_line zs) before after r
-    → r ≡ W.Bytes (length (print_line zs))
+pub record-fits : (zs : List ℤ) → Fit zs → length zs ≡ 32 → (before after : List ℕ) (r : Result ℕ NoRoom) → length before ≡ 672 → Lays (print_line zs) before after r
+    → r ≡ Ok (length (print_line zs))
 record-fits [] f e before after r h l = absurd (omega arith)
 record-fits (z ∷ zs) f e before after r h l = line-fits z zs (fit-short (z ∷ zs) f) before after r (omega arith) l
 
 -- 84 hold any answer's
-pub answer-fits : (a : Answer) (before after : List ℕ) (r : Wrote) → length before ≡ 84 → Lays (print_line (first_line a)) before after r
-    → r ≡ W.Bytes (length (print_line (first_line a)))
+pub answer-fits : (a : Result ℕ Refusal) (before after : List ℕ) (r : Result ℕ NoRoom) → length before ≡ 84 → Lays (print_line (first_line a)) before after r
+    → r ≡ Ok (length (print_line (first_line a)))
 answer-fits a before after r h l =
     line-fits (pos (answer_number a)) (pos (answer_volume a) ∷ pos (answer_line a) ∷ pos (answer_count a) ∷ [])
     (digits-most (answer_number a), (digits-most (answer_volume a), (digits-most (answer_line a), (digits-most (answer_count a), tt))))

@@ -4,7 +4,6 @@
 
 ghost use Rattle.std.specs.Prelude.{◌≡◌, ◌≤◌, ◌*◌, ℕ, [], ◌∷◌, ◌++◌, map, length, take, OnOk};
 ghost use Rattle.std.specs.Io.KnownBytes.{Appends};
-ghost use Rattle.leaves.specs.declared.Wrote.TheVariants.{Bytes};
 ghost use Rattle.rules.specs.Base.{join};
 ghost use Rattle.rules.specs.Answers.{answer_count, show_signed, print_line, first_line};
 ghost use Rattle.promises.specs.Printing.{record_lines};
@@ -14,8 +13,8 @@ pub mod input;
 pub mod questions;
 pub mod text;
 
-use leaves::Wrote;
-use rules::Answer;
+use leaves::NoRoom;
+use rules::Refusal;
 use std::io;
 use std::io::Write;
 use text::{put_answer, put_line};
@@ -55,17 +54,17 @@ pub fn write_front<W: Write>(out: &mut W, text: &[u8], n: usize) -> io::Result<(
     out.write_all(&text[..n])
 }
 
-fn write_laid<W: Write>(out: &mut W, text: &[u8], laid: Wrote) -> io::Result<()>
-    ensures { OnOk result ((n : ℕ) × (laid ≡ Bytes n) × Appends (W.contents out.old) (W.contents out.new) (take n text.now)) }
+fn write_laid<W: Write>(out: &mut W, text: &[u8], laid: Result<usize, NoRoom>) -> io::Result<()>
+    ensures { OnOk result ((n : ℕ) × (laid ≡ Ok n) × Appends (W.contents out.old) (W.contents out.new) (take n text.now)) }
 {
     match laid {
-        Wrote::Bytes(n) => write_front(out, text, n),
-        Wrote::Full => Err(nothing_there()),
+        Ok(n) => write_front(out, text, n),
+        Err(NoRoom) => Err(nothing_there()),
     }
 }
 
 // An answer's line.
-pub fn answer_line<W: Write>(out: &mut W, a: Answer) -> io::Result<()>
+pub fn answer_line<W: Write>(out: &mut W, a: Result<u32, Refusal>) -> io::Result<()>
     ensures { OnOk result (Appends (W.contents out.old) (W.contents out.new) (print_line (first_line a))) }
 {
     let mut line = [0u8; ANSWER_LINE];
@@ -74,11 +73,11 @@ pub fn answer_line<W: Write>(out: &mut W, a: Answer) -> io::Result<()>
 }
 
 // The same without its newline.
-pub fn answer<W: Write>(out: &mut W, a: Answer) -> io::Result<()>
+pub fn answer<W: Write>(out: &mut W, a: Result<u32, Refusal>) -> io::Result<()>
     ensures { OnOk result (Appends (W.contents out.old) (W.contents out.new) (join 32 (map show_signed (first_line a)))) }
 {
     let mut line = [0u8; ANSWER_LINE];
-    let Wrote::Bytes(n) = put_answer(a, &mut line) else {
+    let Ok(n) = put_answer(a, &mut line) else {
         return Err(nothing_there());
     };
     if n == 0 {
@@ -119,13 +118,13 @@ pub fn records<W: Write>(out: &mut W, count: u64, table: &[i64]) -> io::Result<(
 }
 
 // A reading: the line of its answer, then the lines of the table's records one after the other, each as it was laid (`put_answer`, `put_line`).
-pub fn listing<W: Write>(out: &mut W, answer: Answer, table: &[i64]) -> io::Result<()>
+pub fn listing<W: Write>(out: &mut W, answer: Result<u32, Refusal>, table: &[i64]) -> io::Result<()>
     ensures { OnOk result (Appends (W.contents out.old) (W.contents out.new)
         (print_line (first_line answer) ++ record_lines (answer_count answer) table.now)) }
 {
     answer_line(out, answer)?;
     match answer {
-        Answer::Accepted(count) => records(out, count as u64, table),
-        Answer::Refused(_f) => Ok(()),
+        Ok(count) => records(out, count as u64, table),
+        Err(_f) => Ok(()),
     }
 }

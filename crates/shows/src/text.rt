@@ -5,27 +5,27 @@ ghost use Rattle.leaves.specs.Writing.{Puts};
 ghost use Rattle.rules.specs.Answers.{show_number, show_signed, print_line, first_line};
 ghost use Rattle.shows.specs.Laid.{Lays};
 
-use leaves::Wrote;
+use leaves::NoRoom;
 use leaves::write::{clear, put, put_count};
-use rules::Answer;
+use rules::Refusal;
 
 // A number behind a `-`; the number is written first, so that nothing is written where there is no room for both.
-fn put_minus(n: u64, out: &mut [u8]) -> Wrote
+fn put_minus(n: u64, out: &mut [u8]) -> Result<usize, NoRoom>
     ensures { Puts (45 ∷ show_number n) out.old out.new result }
 {
     if out.len() == 0 {
-        return Wrote::Full;
+        return Err(NoRoom);
     }
     let number = put_count(n, &mut out[1..]);
-    let Wrote::Bytes(digits) = number else {
-        return Wrote::Full;
+    let Ok(digits) = number else {
+        return Err(NoRoom);
     };
     out[0] = b'-';
-    Wrote::Bytes(digits + 1)
+    Ok(digits + 1)
 }
 
 // One is added before the sign is turned, for the least of all numbers.
-fn put_signed(z: i64, out: &mut [u8]) -> Wrote
+fn put_signed(z: i64, out: &mut [u8]) -> Result<usize, NoRoom>
     ensures { Puts (show_signed z) out.old out.new result }
 {
     if z < 0 {
@@ -35,19 +35,19 @@ fn put_signed(z: i64, out: &mut [u8]) -> Wrote
 }
 
 // A number and the byte behind it. The number is lent one byte less, so that nothing is written where there is no room for both.
-fn put_ended(z: i64, end: u8, out: &mut [u8]) -> Wrote
+fn put_ended(z: i64, end: u8, out: &mut [u8]) -> Result<usize, NoRoom>
     ensures { Puts (show_signed z ++ end ∷ []) out.old out.new result }
 {
     if out.len() == 0 {
-        return Wrote::Full;
+        return Err(NoRoom);
     }
     let room = out.len() - 1;
     let number = put_signed(z, &mut out[..room]);
-    let Wrote::Bytes(n) = number else {
-        return Wrote::Full;
+    let Ok(n) = number else {
+        return Err(NoRoom);
     };
     out[n] = end;
-    Wrote::Bytes(n + 1)
+    Ok(n + 1)
 }
 
 // What stands behind the number that is followed by `left` others: a space, behind the last one a newline.
@@ -61,14 +61,14 @@ fn end_before(left: usize) -> u8
 }
 
 // The line of no number at all.
-fn put_empty(out: &mut [u8]) -> Wrote
+fn put_empty(out: &mut [u8]) -> Result<usize, NoRoom>
     ensures { Lays (10 ∷ []) out.old out.new result }
 {
     put(b"\n", out)
 }
 
 // The line of these numbers at the front of out, where it fits; where it does not, out is all zeros.
-pub fn put_line(zs: &[i64], out: &mut [u8]) -> Wrote
+pub fn put_line(zs: &[i64], out: &mut [u8]) -> Result<usize, NoRoom>
     ensures { Lays (print_line zs.now) out.old out.new result }
 {
     if zs.len() == 0 {
@@ -79,26 +79,26 @@ pub fn put_line(zs: &[i64], out: &mut [u8]) -> Wrote
     while i < zs.len() {
         let end = end_before(zs.len() - i - 1);
         let number = put_ended(zs[i], end, &mut out[at..]);
-        let Wrote::Bytes(n) = number else {
+        let Ok(n) = number else {
             clear(out);
-            return Wrote::Full;
+            return Err(NoRoom);
         };
         at += n;
         i += 1;
     }
-    Wrote::Bytes(at)
+    Ok(at)
 }
 
 // The line of an answer.
-pub fn put_answer(a: Answer, out: &mut [u8]) -> Wrote
+pub fn put_answer(a: Result<u32, Refusal>, out: &mut [u8]) -> Result<usize, NoRoom>
     ensures { Lays (print_line (first_line a)) out.old out.new result }
 {
     match a {
-        Answer::Accepted(count) => {
+        Ok(count) => {
             let numbers = [0, 0, 0, count as i64];
             put_line(&numbers, out)
         }
-        Answer::Refused(f) => {
+        Err(f) => {
             let numbers = [f.number as i64, f.volume as i64, f.line as i64, 0];
             put_line(&numbers, out)
         }

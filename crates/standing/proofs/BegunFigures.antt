@@ -1,8 +1,8 @@
 -- A figure on one line, and one that is a block and has just begun: what the set says of it, its kind, and its marks.
+use Rattle.std.specs.Prelude.{None}
 use Prim.Native.Nat.{ℕ, ◌+◌}
 use mathlib.Core.Bool.{Bool, true, false}
 use mathlib.Core.List.{List, [], ◌∷◌, ◌++◌, append-nil}
-use mathlib.Core.Option.{none}
 use mathlib.Core.Path.{◌≡◌, refl, sym, ◌∙◌, ap}
 use native.Mathlib.Omega.{arith}
 use lib.IntN.{pos}
@@ -88,7 +88,7 @@ pub wire-unmarked : (ms : List Bool) → length ms ≡ 28 → take 10 (replicate
 unfolding wire_table
 wire-unmarked ms q = ap (λ (m : ℕ). take 10 (replicate m false)) q
 
-pub wire-blank : (length no_wire.own ≡ 10) × (take 6 no_wire.own ≡ replicate 6 none)
+pub wire-blank : (length no_wire.own ≡ 10) × (take 6 no_wire.own ≡ replicate 6 None)
 unfolding wire_table
 wire-blank = (refl, refl)
 

@@ -1,8 +1,8 @@
 -- A `successive` on the scratch: with one more point, and at its end.
+use Rattle.std.specs.Prelude.{Some}
 use Prim.Native.Nat.{ℕ, ◌+◌, ◌*◌, ◌-◌}
 use mathlib.Core.Bool.{Bool, true, cond}
 use mathlib.Core.List.{List, [], ◌∷◌, ◌++◌, append-nil, append_assoc}
-use mathlib.Core.Option.{some}
 use mathlib.Core.Path.{◌≡◌, refl, sym, ◌∙◌, ap, subst}
 use native.Mathlib.Omega.{arith}
 use borrow.Author.Tests.{eq-eqb, ne_eqb}
@@ -30,7 +30,7 @@ use Rattle.standing.proofs.ClearedKept.{first_typed, later_typed}
 
 -- ── one more point ──
 -- the type of a point is in its record
-type_of : (v : List Num) (kind owner volume line : ℕ) → get_or (put_slot (rule_at (point_table true) 0) (some (nums v)) (start kind owner volume line)) 4 (pos 0) ≡ value_at v 0
+type_of : (v : List Num) (kind owner volume line : ℕ) → get_or (put_slot (rule_at (point_table true) 0) (Some (nums v)) (start kind owner volume line)) 4 (pos 0) ≡ value_at v 0
 unfolding point_table
 type_of [] kind owner volume line = refl
 type_of (n ∷ v) kind owner volume line = refl

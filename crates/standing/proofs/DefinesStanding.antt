@@ -1,8 +1,8 @@
 -- A line in SYMBOL_DEFINE: from the code's answer to the step that the definitions make.
+use Rattle.std.specs.Prelude.{None}
 use Prim.Native.Nat.{ℕ, zero, suc, ◌+◌, ◌≤◌, ◌<◌}
 use mathlib.Core.Bool.{Bool, true, false, cond, ◌||◌, not}
 use mathlib.Core.List.{List, [], ◌∷◌}
-use mathlib.Core.Option.{none}
 use mathlib.Core.Path.{◌≡◌, refl, sym, ◌∙◌, ap, subst}
 use native.Mathlib.Omega.{arith}
 use lib.Dec.{eqb}
@@ -71,7 +71,7 @@ blank-new : (s : Set) (line : ℕ) → new_name s (new_symbol line) ≡ true
 unfolding symbol_table
 blank-new s line = refl
 
-blank-name : get_or (blank symbol_table) 0 none ≡ none
+blank-name : get_or (blank symbol_table) 0 None ≡ None
 unfolding symbol_table
 blank-name = refl
 

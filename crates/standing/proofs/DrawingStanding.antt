@@ -1,8 +1,8 @@
 -- A line in DRAWING_FORMAT: from the code's answer to the step that the definitions make.
+use Rattle.std.specs.Prelude.{Some}
 use Prim.Native.Nat.{ℕ, ◌≤◌}
 use mathlib.Core.Bool.{Bool, true}
 use mathlib.Core.List.{List, [], map}
-use mathlib.Core.Option.{some}
 use mathlib.Core.Path.{◌≡◌, refl, sym, ◌∙◌, ap, subst}
 use native.Mathlib.Omega.{arith}
 use lib.IntN.{ℤ}
@@ -103,7 +103,7 @@ module _ (c : Class) (spool : List ℕ) (k : ℕ) (FileHere : Desk → Set → �
     -- one of its rows: j, with these numbers
     module _ (j : ℕ) (v : Value) (it : Taken drawing_table (rows_there g.own) j v) (m : m₁ ≡ set d.marks j true) (q : rec₁ ≡ put_line (rule_at (table_of 7) j) 0 v (part_at 0 d.scratch)) where
       abbrev g' : Drawing
-      g' = with_own (set g.own j (some v)) g
+      g' = with_own (set g.own j (Some v)) g
 
       put : line_in 0 drawing_table j v d.scratch ≡ t₁
       put =
@@ -116,7 +116,7 @@ module _ (c : Class) (spool : List ℕ) (k : ℕ) (FileHere : Desk → Set → �
       row_in n = record {
         phase = inw.phase;
         bare = inw.bare;
-        slots = length-set g.own j (some v) ∙ inw.slots;
+        slots = length-set g.own j (Some v) ∙ inw.slots;
         marked =
             ap (take 8) m ∙ take-set-lt 8 d.marks j true (omega (arith, it.row, eight-rows)) ∙ ap (λ (y : List Bool). set y j true) inw.marked ∙ sym (marks-set g.own j v);
       }

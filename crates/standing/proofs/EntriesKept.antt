@@ -1,9 +1,9 @@
 -- Lines that take no record and make none complete: a row entered into an open block, a block that opens or closes around others. The
 -- table's list stays as it is; on the scratch a row's values are put into the record that is open.
+use Rattle.std.specs.Prelude.{Some}
 use Prim.Native.Nat.{ℕ, zero, suc, ◌<◌}
 use mathlib.Core.Bool.{Bool, true, false}
 use mathlib.Core.List.{List, [], ◌∷◌, ◌++◌, append-nil, append_assoc}
-use mathlib.Core.Option.{some}
 use mathlib.Core.Path.{◌≡◌, refl, sym, ◌∙◌, ap}
 use native.Mathlib.Omega.{arith}
 use lib.IntN.{ℤ}
@@ -52,7 +52,7 @@ file-enters c s n h h' p p' t x = alike c (file s n h p) (file s n h' p') t refl
 module _ (c : Class) (s : Set) (d : Drawing) (t : List ℤ) where
   module _ (x : Scratch t (drawing s d)) (j : ℕ) (v : Value) (slots : length d.own ≡ 8) (it : Taken drawing_table (rows_there d.own) j v) where
     abbrev d' : Drawing
-    d' = with_own (set d.own j (some v)) d
+    d' = with_own (set d.own j (Some v)) d
 
     abbrev rec : List ℤ
     rec = put_line (rule_at drawing_table j) 0 v (part_at 0 t)
@@ -88,7 +88,7 @@ module _ (c : Class) (s : Set) (y : Symbol) (t : List ℤ) where
   -- one of its rows
   module _ (x : Scratch t (symbol s y)) (j : ℕ) (v : Value) (slots : length y.own ≡ 4) (it : Taken symbol_table (rows_there y.own) j v) where
     abbrev y' : Symbol
-    y' = symbol_own (set y.own j (some v)) y
+    y' = symbol_own (set y.own j (Some v)) y
 
     abbrev made : List ℤ
     made = put_line (rule_at symbol_table j) 0 v (part_at 0 t)
@@ -108,22 +108,22 @@ module _ (c : Class) (s : Set) (y : Symbol) (t : List ℤ) where
 
     -- `hide:{`; b: it comes before `element`
     pub hide_open : (b : Bool) → y.hidden ≡ [] → Enters c (symbol s y) (hide s (symbol_order b y') []) (line_in 0 symbol_table j v t)
-    hide_open b none = record {
-      same = append-nil (shut_so_far c (symbol s (symbol_order b y'))) ∙ ap (λ (r : List (List ℤ)). front_records s ++ empty_record ∷ r) (sym (same-order n y' b none));
+    hide_open b None = record {
+      same = append-nil (shut_so_far c (symbol s (symbol_order b y'))) ∙ ap (λ (r : List (List ℤ)). front_records s ++ empty_record ∷ r) (sym (same-order n y' b None));
       scratch = scratch-own t (symbol s y) (hide s (symbol_order b y') []) x made long entered refl refl;
     }
 
   -- their ends: the symbol is open again
   pub element-close : (fs : List Figure) → y.figures ≡ [] → (y.hide_first ≡ false → y.hidden ≡ []) → Scratch t (figures s (in_element y) fs)
       → Enters c (figures s (in_element y) fs) (symbol s (symbol_figures fs y)) t
-  element-close fs none order x =
+  element-close fs None order x =
       alike c (figures s (in_element y) fs) (symbol s (symbol_figures fs y)) t
-      (ap (λ (r : List (List ℤ)). front_records s ++ empty_record ∷ r) (element-more n y fs none order) ∙ sym (append_assoc (front_records s) (empty_record ∷ inner_records n y) (shown n y fs))) refl refl refl x
+      (ap (λ (r : List (List ℤ)). front_records s ++ empty_record ∷ r) (element-more n y fs None order) ∙ sym (append_assoc (front_records s) (empty_record ∷ inner_records n y) (shown n y fs))) refl refl refl x
 
   pub hide-close : (ps : List Point) → y.hidden ≡ [] → (y.hide_first ≡ true → y.figures ≡ []) → Scratch t (hide s y ps) → Enters c (hide s y ps) (symbol s (symbol_hidden ps y)) t
-  hide-close ps none order x =
+  hide-close ps None order x =
       alike c (hide s y ps) (symbol s (symbol_hidden ps y)) t
-      (ap (λ (r : List (List ℤ)). front_records s ++ empty_record ∷ r) (hide-more n y ps none order)
+      (ap (λ (r : List (List ℤ)). front_records s ++ empty_record ∷ r) (hide-more n y ps None order)
       ∙ sym (append_assoc (front_records s) (empty_record ∷ inner_records n y) (point_records kind_hidden n 1 ps))) refl refl refl x
 
 -- ── ELEMENT ──
@@ -144,13 +144,13 @@ eof-enters c s t x = alike c (top s 4) (ended s) t refl refl refl refl x
 
 -- ── a figure's text ──
 pub text-row : (c : Class) (s : Set) (h : Home) (fs : List Figure) (n : ℕ) (o : Slots) (t : List ℤ) → Scratch t (texts s h fs n o) → (j : ℕ) (v : Value) → length o ≡ 2
-    → Taken (text_rows (is_layer h)) (rows_there o) j v → Enters c (texts s h fs n o) (texts s h fs n (set o j (some v))) (line_in 32 (text_rows (is_layer h)) j v t)
+    → Taken (text_rows (is_layer h)) (rows_there o) j v → Enters c (texts s h fs n o) (texts s h fs n (set o j (Some v))) (line_in 32 (text_rows (is_layer h)) j v t)
 text-row c s h fs n o t x j v slots it =
     let rule : Rule = rule_at (text_rows (is_layer h)) j in
     record {
       same = refl;
       scratch =
-          scratch-figure t (texts s h fs n o) (texts s h fs n (set o j (some v))) x (put_line rule 0 v (part_at 32 t))
+          scratch-figure t (texts s h fs n o) (texts s h fs n (set o j (Some v))) x (put_line rule 0 v (part_at 32 t))
           (length-line rule 0 v (part_at 32 t) ∙ ap length x.figure ∙ text-length (home_more h) (home_owner s h) (home_volume s h) n o)
           (ap (put_line rule 0 v) x.figure ∙ text-entry (is_layer h) o j v (home_more h) (home_owner s h) (home_volume s h) n slots it) refl refl;
     }

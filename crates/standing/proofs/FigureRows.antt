@@ -1,8 +1,8 @@
 -- What is computed of the tables of figures: their rows, and the records of the lines that they take.
+use Rattle.std.specs.Prelude.{Some}
 use Prim.Native.Nat.{ℕ, zero, suc, ◌+◌}
 use mathlib.Core.Bool.{Bool, true, false, cond, ◌&&◌, ◌||◌, not}
 use mathlib.Core.List.{List, [], ◌∷◌}
-use mathlib.Core.Option.{some}
 use mathlib.Core.Path.{◌≡◌, refl, sym, ◌∙◌, ap}
 use native.Mathlib.Omega.{arith}
 use borrow.Author.Tests.{eqb-true}
@@ -104,7 +104,7 @@ block-keys s (in_layer m) = layer-keys (is_single s) (is_wired s)
 -- ── a figure on one line ──
 -- `E_symbol=`: at E_sym 001 no attribute is allowed, so none is unread
 single_record : (c : Class) (e : ℕ) (w : Bool) (t : List Rule) (v : List Num) (owner volume line : ℕ)
-    → put_slot (rule_at (layer_table true w) 6) (some (nums v)) (start 16 owner volume line) ≡ placed_record (record { class = c; symbols = digits 0 1; wires = e; table = t }) 0 owner volume line ((some (nums v) ∷ []) ∷ [])
+    → put_slot (rule_at (layer_table true w) 6) (Some (nums v)) (start 16 owner volume line) ≡ placed_record (record { class = c; symbols = digits 0 1; wires = e; table = t }) 0 owner volume line ((Some (nums v) ∷ []) ∷ [])
 unfolding layer_table placed_table text_table
 single_record c e w t v owner volume line = refl
 
@@ -124,7 +124,7 @@ layer-line c d e b w q (suc (suc (suc (suc (suc zero))))) v o vo li i f = clash 
 layer-line c d e true w q (suc (suc (suc (suc (suc (suc zero)))))) v o vo li i f =
     row_record (rule_at (layer_table true w) 6) 4 (nums v) 16 o vo li refl (omega arith) refl refl refl f
     ∙ single_record c e w (layer_table true w) v o vo li
-    ∙ ap (λ (y : Digits). placed_record (view_in c y e true w) 0 o vo li ((some (nums v) ∷ []) ∷ [])) (sym (q refl))
+    ∙ ap (λ (y : Digits). placed_record (view_in c y e true w) 0 o vo li ((Some (nums v) ∷ []) ∷ [])) (sym (q refl))
 layer-line c d e false w q (suc (suc (suc (suc (suc (suc zero)))))) v o vo li i f = clash i refl
 layer-line c d e b true q (suc (suc (suc (suc (suc (suc (suc zero))))))) v o vo li i f = clash i refl
 layer-line c d e b true q (suc (suc (suc (suc (suc (suc (suc (suc j)))))))) v o vo li i f = clash i refl

@@ -1,8 +1,8 @@
 -- FILE_FORMAT behind a line that entered one of its rows, or opened one of its parts.
+use Rattle.std.specs.Prelude.{Some, None}
 use Prim.Native.Nat.{ℕ, zero, suc, ◌+◌, ◌<◌}
 use mathlib.Core.Bool.{Bool, true, false}
 use mathlib.Core.List.{List, [], ◌∷◌, map}
-use mathlib.Core.Option.{none, some}
 use mathlib.Core.Path.{◌≡◌, refl, sym, ◌∙◌, ap, ap₂, subst}
 use native.Mathlib.Omega.{arith}
 use borrow.Author.Tests.{eqb-true, eqb-false}
@@ -171,7 +171,7 @@ module _ (spool : List ℕ) (k : ℕ) (d : Desk) (s : Set) (n : ℕ) (h : Held) 
       (eh : h₁ ≡ kept_in first p j (put_line (rule_at rows j) 64 v d.header)) (g : Header h₁) (name : p ≡ 0 → j ≡ next_row first → NameHere spool v)
       (date : first ≡ false → j ≡ 3 → (i : Num) × (v ≡ nums (i ∷ []))) (time : first ≡ false → j ≡ 4 → (i : Num) × (v ≡ nums (i ∷ [])))
       (wires : p ≡ 3 → j ≡ 1 → (i : Num) × (v ≡ nums (i ∷ [])))
-      (one : columns (rule_at rows j).holds ≡ 1 → is_numbers (some v) ≡ true) where
+      (one : columns (rule_at rows j).holds ≡ 1 → is_numbers (Some v) ≡ true) where
     there : (p < length h) × (length (part_of h p) ≡ length rows)
     there =
         let w = shaped-at (file_tables first) 0 p h f.shaped (part-number first p f.parts) in
@@ -196,22 +196,22 @@ module _ (spool : List ℕ) (k : ℕ) (d : Desk) (s : Set) (n : ℕ) (h : Held) 
             let w = eqb-false q p e in
             mark-other first p j f.parts tk.row d.marks q (part_open first q l) w ∙ f.marked q l ∙ ap rows_there (sym (enter-other h p q j v w))
 
-    put-counted : (q i : ℕ) → columns (rule_at (get_or (file_tables first) q []) i).holds ≡ 1 → is_numbers (get_or (part_of (enter h p j v) q) i none) ≡ true
+    put-counted : (q i : ℕ) → columns (rule_at (get_or (file_tables first) q []) i).holds ≡ 1 → is_numbers (get_or (part_of (enter h p j v) q) i None) ≡ true
     put-counted q i l = go (eqb q p) refl (eqb i j) refl
       where
-        go : (a : Bool) → eqb q p ≡ a → (b : Bool) → eqb i j ≡ b → is_numbers (get_or (part_of (enter h p j v) q) i none) ≡ true
+        go : (a : Bool) → eqb q p ≡ a → (b : Bool) → eqb i j ≡ b → is_numbers (get_or (part_of (enter h p j v) q) i None) ≡ true
         go true e true r =
             let w = eqb-true q p e in
             let u = eqb-true i j r in
-            ap (λ (m : ℕ). is_numbers (get_or (part_of (enter h p j v) m) i none)) w ∙ ap (λ (o : Slots). is_numbers (get_or o i none)) (enter-own h p j v there.0)
-            ∙ ap (λ (m : ℕ). is_numbers (get_or (set (part_of h p) j (some v)) m none)) u
-            ∙ ap is_numbers (get_or-set_same (part_of h p) j (some v) none (omega (arith, tk.row, there.1)))
+            ap (λ (m : ℕ). is_numbers (get_or (part_of (enter h p j v) m) i None)) w ∙ ap (λ (o : Slots). is_numbers (get_or o i None)) (enter-own h p j v there.0)
+            ∙ ap (λ (m : ℕ). is_numbers (get_or (set (part_of h p) j (Some v)) m None)) u
+            ∙ ap is_numbers (get_or-set_same (part_of h p) j (Some v) None (omega (arith, tk.row, there.1)))
             ∙ one (ap (λ (m : ℕ). columns (rule_at (get_or (file_tables first) m []) j).holds) (sym w) ∙ ap (λ (m : ℕ). columns (rule_at (get_or (file_tables first) q []) m).holds) (sym u) ∙ l)
         go true e false r =
             let w = eqb-true q p e in
-            ap (λ (m : ℕ). is_numbers (get_or (part_of (enter h p j v) m) i none)) w ∙ ap (λ (o : Slots). is_numbers (get_or o i none)) (enter-own h p j v there.0)
-            ∙ ap is_numbers (get_or-set_other (part_of h p) j i (some v) none (eqb-false i j r)) ∙ ap (λ (m : ℕ). is_numbers (get_or (part_of h m) i none)) (sym w) ∙ f.counted q i l
-        go false e b r = ap (λ (o : Slots). is_numbers (get_or o i none)) (enter-other h p q j v (eqb-false q p e)) ∙ f.counted q i l
+            ap (λ (m : ℕ). is_numbers (get_or (part_of (enter h p j v) m) i None)) w ∙ ap (λ (o : Slots). is_numbers (get_or o i None)) (enter-own h p j v there.0)
+            ∙ ap is_numbers (get_or-set_other (part_of h p) j i (Some v) None (eqb-false i j r)) ∙ ap (λ (m : ℕ). is_numbers (get_or (part_of h m) i None)) (sym w) ∙ f.counted q i l
+        go false e b r = ap (λ (o : Slots). is_numbers (get_or o i None)) (enter-other h p q j v (eqb-false q p e)) ∙ f.counted q i l
 
     pub row-entered : (q : ℕ) → now.part ≡ q → PartOpen first q → Then (enter h p j v) q
     row-entered q e o =

@@ -1,8 +1,8 @@
 -- What FILE_FORMAT's lines hold: next_file a name of the spool, a row of one number that number.
+use Rattle.std.specs.Prelude.{Option, Some, None}
 use Prim.Native.Nat.{ℕ}
 use mathlib.Core.Bool.{Bool, true, false, cond}
 use mathlib.Core.List.{List, [], ◌∷◌, map}
-use mathlib.Core.Option.{Option, none, some}
 use mathlib.Core.Path.{◌≡◌, refl, sym, ◌∙◌, ap, subst}
 use native.Mathlib.Omega.{arith}
 use lib.IntN.{ℤ, pos, negsuc, nat_abs}
@@ -32,9 +32,9 @@ ShapeHere spool (opening at c) = Unit {0}
 ShapeHere spool formless = Unit {0}
 
 stem-here : (spool : List ℕ) (at : ℕ) (c : List ℕ) (o : Option (List ℕ)) → c ≡ bytes_at spool (span at (length c)) → ShapeHere spool (by_stem at c o)
-stem-here spool at c none h = h
-stem-here spool at c (some []) h = tt
-stem-here spool at c (some (b ∷ t)) h = tt
+stem-here spool at c None h = h
+stem-here spool at c (Some []) h = tt
+stem-here spool at c (Some (b ∷ t)) h = tt
 
 shape-here : (spool : List ℕ) (r : Rest) → RestHere spool r → ShapeHere spool (shape_of r)
 shape-here spool brace h = tt
@@ -84,8 +84,8 @@ name-closed k t d full f i j v x q = go x.rule.may (shape_for x.rule x.rest) (ap
     go may formless h e = never e
 
 -- ── rows of one number ──
-one-kind : (k : Known) (d : Kind) (at : ℕ) (c : List ℕ) (v : Value) → columns d ≡ 1 → read_kind k d at c ≡ got v → is_numbers (some v) ≡ true
-one-kind k (values p ps a) at c v h e = let (w, q, u) = map-got nums (keep 11 (agree a) (read_all k (p ∷ ps) (split 44 c))) v e in subst (λ (x : Value). is_numbers (some x) ≡ true) u refl
+one-kind : (k : Known) (d : Kind) (at : ℕ) (c : List ℕ) (v : Value) → columns d ≡ 1 → read_kind k d at c ≡ got v → is_numbers (Some v) ≡ true
+one-kind k (values p ps a) at c v h e = let (w, q, u) = map-got nums (keep 11 (agree a) (read_all k (p ∷ ps) (split 44 c))) v e in subst (λ (x : Value). is_numbers (Some x) ≡ true) u refl
 one-kind k (text n b) at c v h e = absurd (omega (arith, h))
 one-kind k (word n b) at c v h e = absurd (omega (arith, h))
 one-kind k volume_name at c v h e = absurd (omega (arith, h))
@@ -96,17 +96,17 @@ one-kind k wire_serial at c v h e = absurd (omega (arith, h))
 one-kind k symbol_circle at c v h e = absurd (omega (arith, h))
 one-kind k nothing at c v h e = absurd (omega (arith, h))
 one-kind k (opens i) at c v h e = absurd (omega (arith, h))
-one-kind k (headed i p) at c v h e = let (w, q, u) = map-got (λ n. nums (n ∷ [])) (read_part k p c) v e in subst (λ (x : Value). is_numbers (some x) ≡ true) u refl
-one-kind k (either i) at c v h e = let (w, q, u) = map-got (λ n. nums (n ∷ [])) (read_part k (range 0 1) c) v e in subst (λ (x : Value). is_numbers (some x) ≡ true) u refl
+one-kind k (headed i p) at c v h e = let (w, q, u) = map-got (λ n. nums (n ∷ [])) (read_part k p c) v e in subst (λ (x : Value). is_numbers (Some x) ≡ true) u refl
+one-kind k (either i) at c v h e = let (w, q, u) = map-got (λ n. nums (n ∷ [])) (read_part k (range 0 1) c) v e in subst (λ (x : Value). is_numbers (Some x) ≡ true) u refl
 
-one-shape : (k : Known) (j : ℕ) (r : Rule) (s : Shape) (a : Act) → columns r.holds ≡ 1 → read_shape k j r s ≡ got a → is_numbers (some (value_of a)) ≡ true
-one-shape k j r opener a h e = let q : begin (inner_of r.holds) j (nums []) ≡ a = cc in subst (λ (x : Act). is_numbers (some (value_of x)) ≡ true) q refl
-one-shape k j r no_content a h e = let q : entry j empty ≡ a = cc in subst (λ (x : Act). is_numbers (some (value_of x)) ≡ true) q refl
-one-shape k j r (content at c) a h e = let (v, p, q) = map-got (entry j) (read_kind k r.holds at c) a e in subst (λ (x : Act). is_numbers (some (value_of x)) ≡ true) q (one-kind k r.holds at c v h p)
-one-shape k j r (opening at c) a h e = let (v, p, q) = map-got (begin (inner_of r.holds) j) (read_kind k r.holds at c) a e in subst (λ (x : Act). is_numbers (some (value_of x)) ≡ true) q (one-kind k r.holds at c v h p)
+one-shape : (k : Known) (j : ℕ) (r : Rule) (s : Shape) (a : Act) → columns r.holds ≡ 1 → read_shape k j r s ≡ got a → is_numbers (Some (value_of a)) ≡ true
+one-shape k j r opener a h e = let q : begin (inner_of r.holds) j (nums []) ≡ a = cc in subst (λ (x : Act). is_numbers (Some (value_of x)) ≡ true) q refl
+one-shape k j r no_content a h e = let q : entry j empty ≡ a = cc in subst (λ (x : Act). is_numbers (Some (value_of x)) ≡ true) q refl
+one-shape k j r (content at c) a h e = let (v, p, q) = map-got (entry j) (read_kind k r.holds at c) a e in subst (λ (x : Act). is_numbers (Some (value_of x)) ≡ true) q (one-kind k r.holds at c v h p)
+one-shape k j r (opening at c) a h e = let (v, p, q) = map-got (begin (inner_of r.holds) j) (read_kind k r.holds at c) a e in subst (λ (x : Act). is_numbers (Some (value_of x)) ≡ true) q (one-kind k r.holds at c v h p)
 one-shape k j r formless a h e = never e
 
-pub one-numbers : (k : Known) (t : List Rule) (d : Digits) (full : List Bool) (f : Form) (j : ℕ) (a : Act) (x : From k t d full f j a) → columns x.rule.holds ≡ 1 → is_numbers (some (value_of a)) ≡ true
+pub one-numbers : (k : Known) (t : List Rule) (d : Digits) (full : List Bool) (f : Form) (j : ℕ) (a : Act) (x : From k t d full f j a) → columns x.rule.holds ≡ 1 → is_numbers (Some (value_of a)) ≡ true
 one-numbers k t d full f j a x h = one-shape k j x.rule (shape_for x.rule x.rest) a h x.did.read
 
 -- the number itself
@@ -139,9 +139,9 @@ pub amount-back : (n : Num) → is_count n.value ≡ true → nat_abs n.value �
 amount-back n e = amount_of_lem n.value e
 
 pub count-back : (o : Option Value) → is_numbers o ≡ true → is_count (first_or0 (numbers_of o)) ≡ true → nat_abs (first_or0 (numbers_of o)) ≡ amount_at (slot_value o) 0
-count-back none h e = refl
-count-back (some empty) h e = refl
-count-back (some (nums [])) h e = refl
-count-back (some (nums (n ∷ v))) h e = amount-back n e
-count-back (some (chars at c)) h e = clash h refl
-count-back (some (linked n ps)) h e = clash h refl
+count-back None h e = refl
+count-back (Some empty) h e = refl
+count-back (Some (nums [])) h e = refl
+count-back (Some (nums (n ∷ v))) h e = amount-back n e
+count-back (Some (chars at c)) h e = clash h refl
+count-back (Some (linked n ps)) h e = clash h refl

@@ -1,8 +1,8 @@
 -- What FILE_FORMAT's lines hold are counts, and the inner blocks that they open are its four parts.
+use Rattle.std.specs.Prelude.{Option, Some, None}
 use Prim.Native.Nat.{ℕ, zero, suc, ◌^◌, ◌<◌, ◌≤◌}
 use mathlib.Core.Bool.{Bool, true, false, cond, ◌&&◌}
 use mathlib.Core.List.{List, [], ◌∷◌, map}
-use mathlib.Core.Option.{Option, none, some}
 use mathlib.Core.Path.{◌≡◌, refl, ap, subst}
 use native.Mathlib.Omega.{arith}
 use lib.Dec.{leb}
@@ -56,7 +56,7 @@ count_kind (headed i p) = count_part p
 count_kind (either i) = true
 
 -- at most nine digits
-run-count : (lo hi : ℕ) (s : List ℕ) (n : ℕ) → hi ≤ 9 → cond (digit_run lo hi s) (some (value s)) none ≡ some n → is_count (pos n) ≡ true
+run-count : (lo hi : ℕ) (s : List ℕ) (n : ℕ) → hi ≤ 9 → cond (digit_run lo hi s) (Some (value s)) None ≡ Some n → is_count (pos n) ≡ true
 run-count lo hi s n h e =
     let (d, q) = cond-some (digit_run lo hi s) (value s) n e in
     let l = run_length lo hi s d in
@@ -65,12 +65,12 @@ run-count lo hi s n h e =
     let b : 10 ^ 9 ≡ 1000000000 = refl in
     lt-ltb n 4294967296 (omega (arith, q, v, t, b))
 
-natural-count : (o : Option ℕ) (m : ℕ) (n : Num) → ((i : ℕ) → o ≡ some i → is_count (pos i) ≡ true) → natural (or_bad m o) ≡ got n → is_count n.value ≡ true
+natural-count : (o : Option ℕ) (m : ℕ) (n : Num) → ((i : ℕ) → o ≡ Some i → is_count (pos i) ≡ true) → natural (or_bad m o) ≡ got n → is_count n.value ≡ true
 natural-count o m n h e =
     let (i, p, q) = map-got _ (or_bad m o) n e in
     subst (λ (x : Num). is_count x.value ≡ true) q (h i (or-got m o i p))
 
-kept-count : (o : Option ℕ) (m k : ℕ) (b : ℕ → Bool) (n : Num) → ((i : ℕ) → o ≡ some i → is_count (pos i) ≡ true) → natural (keep k b (or_bad m o)) ≡ got n → is_count n.value ≡ true
+kept-count : (o : Option ℕ) (m k : ℕ) (b : ℕ → Bool) (n : Num) → ((i : ℕ) → o ≡ Some i → is_count (pos i) ≡ true) → natural (keep k b (or_bad m o)) ≡ got n → is_count n.value ≡ true
 kept-count o m k b n h e =
     let (i, p, q) = map-got _ (keep k b (or_bad m o)) n e in
     subst (λ (x : Num). is_count x.value ≡ true) q (h i (or-got m o i (keep-got k b (or_bad m o) i p).0))
@@ -146,18 +146,18 @@ PlacedShape (content at c) = (at < 4294967296) × (length c < 4294967296)
 PlacedShape (opening at c) = (at < 4294967296) × (length c < 4294967296)
 PlacedShape formless = Unit {0}
 
-stem_shorter : (c t : List ℕ) → stem c ≡ some t → length t ≤ length c
+stem_shorter : (c t : List ℕ) → stem c ≡ Some t → length t ≤ length c
 stem_shorter [] t e = none-some e
 stem_shorter (b ∷ c) t e = go (same (b ∷ c) (bytes ":{")) (λ u. stem_shorter c u) e
   where
-    go : (f : Bool) → ((u : List ℕ) → stem c ≡ some u → length u ≤ length c) → cond f (some []) (map_o (λ u. b ∷ u) (stem c)) ≡ some t → length t ≤ length (b ∷ c)
+    go : (f : Bool) → ((u : List ℕ) → stem c ≡ Some u → length u ≤ length c) → cond f (Some []) (map_o (λ u. b ∷ u) (stem c)) ≡ Some t → length t ≤ length (b ∷ c)
     go true ih e = let z : [] ≡ t = cc in omega (arith, ap length z)
     go false ih e = let (u, p, z) = map-some (λ u. b ∷ u) (stem c) t e in omega (arith, ih u p, ap length z)
 
 by-stem : (at : ℕ) (c : List ℕ) (o : Option (List ℕ)) → stem c ≡ o → Placed (equals at c) → PlacedShape (by_stem at c o)
-by-stem at c none e h = h
-by-stem at c (some []) e h = tt
-by-stem at c (some (b ∷ t)) e h = (h.0, omega (arith, h.1, stem_shorter c (b ∷ t) e))
+by-stem at c None e h = h
+by-stem at c (Some []) e h = tt
+by-stem at c (Some (b ∷ t)) e h = (h.0, omega (arith, h.1, stem_shorter c (b ∷ t) e))
 
 shape-placed : (x : Rest) → Placed x → PlacedShape (shape_of x)
 shape-placed brace h = tt

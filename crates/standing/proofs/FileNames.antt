@@ -1,8 +1,8 @@
 -- What the numbers behind the records say after a line: next_file's place and length, and a later volume's date and time.
+use Rattle.std.specs.Prelude.{Option, Some, None}
 use Prim.Native.Nat.{ℕ, ◌+◌, ◌≤◌, ◌<◌}
 use mathlib.Core.Bool.{Bool, true, false}
 use mathlib.Core.List.{List, [], ◌∷◌, map}
-use mathlib.Core.Option.{Option, none, some}
 use mathlib.Core.Path.{◌≡◌, refl, sym, ◌∙◌, ap, ap₂, subst}
 use native.Mathlib.Omega.{arith}
 use borrow.Author.Tests.{eqb-true, eqb-false}
@@ -30,29 +30,29 @@ use Rattle.standing.proofs.FileEntries.{NameHere, amount-back}
 use Rattle.standing.proofs.HeldParts.{enter-other, enter-own, shaped-at}
 
 -- ── by number of the row ──
-pub next-slot : (first : Bool) (o : Slots) → held "next_file" (own_table first) o ≡ get_or o (next_row first) none
+pub next-slot : (first : Bool) (o : Slots) → held "next_file" (own_table first) o ≡ get_or o (next_row first) None
 unfolding file_table later_table
 next-slot true o = refl
 next-slot false o = refl
 
-pub date-slot : (o : Slots) → number_of "date" later_table o ≡ amount_at (slot_value (get_or o 3 none)) 0
+pub date-slot : (o : Slots) → number_of "date" later_table o ≡ amount_at (slot_value (get_or o 3 None)) 0
 unfolding later_table
 date-slot o = refl
 
-pub time-slot : (o : Slots) → number_of "time" later_table o ≡ amount_at (slot_value (get_or o 4 none)) 0
+pub time-slot : (o : Slots) → number_of "time" later_table o ≡ amount_at (slot_value (get_or o 4 None)) 0
 unfolding later_table
 time-slot o = refl
 
 -- another slot than the one that is entered
-pub slot_else : (h : Held) (p q j i : ℕ) (v : Value) → p < length h → (p ≡ q → i ≡ j → ⊥) → get_or (part_of (enter h p j v) q) i none ≡ get_or (part_of h q) i none
+pub slot_else : (h : Held) (p q j i : ℕ) (v : Value) → p < length h → (p ≡ q → i ≡ j → ⊥) → get_or (part_of (enter h p j v) q) i None ≡ get_or (part_of h q) i None
 slot_else h p q j i v l n = go (eqb q p) refl
   where
-    go : (b : Bool) → eqb q p ≡ b → get_or (part_of (enter h p j v) q) i none ≡ get_or (part_of h q) i none
+    go : (b : Bool) → eqb q p ≡ b → get_or (part_of (enter h p j v) q) i None ≡ get_or (part_of h q) i None
     go true e =
         let w = eqb-true q p e in
-        ap (λ (m : ℕ). get_or (part_of (enter h p j v) m) i none) w ∙ ap (λ (o : Slots). get_or o i none) (enter-own h p j v l)
-        ∙ get_or-set_other (part_of h p) j i (some v) none (n (sym w)) ∙ ap (λ (m : ℕ). get_or (part_of h m) i none) (sym w)
-    go false e = ap (λ (o : Slots). get_or o i none) (enter-other h p q j v (eqb-false q p e))
+        ap (λ (m : ℕ). get_or (part_of (enter h p j v) m) i None) w ∙ ap (λ (o : Slots). get_or o i None) (enter-own h p j v l)
+        ∙ get_or-set_other (part_of h p) j i (Some v) None (n (sym w)) ∙ ap (λ (m : ℕ). get_or (part_of h m) i None) (sym w)
+    go false e = ap (λ (o : Slots). get_or o i None) (enter-other h p q j v (eqb-false q p e))
 
 -- a name's two numbers, kept
 name-kept : (x : List ℤ) → length x ≡ header_length → (get_or (kept_name x) 65 (pos 0) ≡ get_or x 65 (pos 0)) × (get_or (kept_name x) 66 (pos 0) ≡ get_or x 64 (pos 0)) × (get_or (kept_name x) 67 (pos 0) ≡ get_or x 65 (pos 0))
@@ -91,7 +91,7 @@ module _ (spool : List ℕ) (first : Bool) (p j : ℕ) (h : Held) (v : Value) (h
   Named h t = chars_of (slot_value (held "next_file" (own_table first) (part_of h 0))) ≡ map capital (bytes_at spool (span (count_at t 66) (count_at t 67)))
 
   abbrev Unnamed : Held → List ℤ → Type 0
-  Unnamed h t = held "next_file" (own_table first) (part_of h 0) ≡ none → count_at t 65 ≡ 0
+  Unnamed h t = held "next_file" (own_table first) (part_of h 0) ≡ None → count_at t 65 ≡ 0
 
   -- another row than next_file's
   module _ (n : p ≡ 0 → j ≡ next_row first → ⊥) where
@@ -125,14 +125,14 @@ module _ (spool : List ℕ) (first : Bool) (p j : ℕ) (h : Held) (v : Value) (h
     rows : (i : ℕ) → p ≡ i → j < length (part_of h i)
     rows i q = let u = shaped-at (file_tables first) 0 p h sh (part-number first p o) in let y : 0 + p ≡ i = omega (arith, q) in omega (arith, tk.row, u.1, ap (λ (m : ℕ). length (part_of h m)) y)
 
-    new-slot : held "next_file" (own_table first) (part_of (enter h p j v) 0) ≡ some v
+    new-slot : held "next_file" (own_table first) (part_of (enter h p j v) 0) ≡ Some v
     new-slot =
-        next-slot first (part_of (enter h p j v) 0) ∙ ap (λ (i : ℕ). get_or (part_of (enter h i j v) 0) (next_row first) none) z
-        ∙ ap (λ (s : Slots). get_or s (next_row first) none) (enter-own h 0 j v (omega (arith, part-there))) ∙ ap (λ (i : ℕ). get_or (set (part_of h 0) j (some v)) i none) (sym w)
-        ∙ get_or-set_same (part_of h 0) j (some v) none (rows 0 z)
+        next-slot first (part_of (enter h p j v) 0) ∙ ap (λ (i : ℕ). get_or (part_of (enter h i j v) 0) (next_row first) None) z
+        ∙ ap (λ (s : Slots). get_or s (next_row first) None) (enter-own h 0 j v (omega (arith, part-there))) ∙ ap (λ (i : ℕ). get_or (set (part_of h 0) j (Some v)) i None) (sym w)
+        ∙ get_or-set_same (part_of h 0) j (Some v) None (rows 0 z)
 
-    old-slot : held "next_file" (own_table first) (part_of h 0) ≡ none
-    old-slot = next-slot first (part_of h 0) ∙ ap₂ (λ (a b : ℕ). get_or (part_of h a) b none) (sym z) (sym w) ∙ mark-free (part_of h p) j tk.free
+    old-slot : held "next_file" (own_table first) (part_of h 0) ≡ None
+    old-slot = next-slot first (part_of h 0) ∙ ap₂ (λ (a b : ℕ). get_or (part_of h a) b None) (sym z) (sym w) ∙ mark-free (part_of h p) j tk.free
 
     long : length x ≡ header_length
     long = length-sets h₀ 64 (numbers v) ∙ g.long
@@ -185,32 +185,32 @@ kept-number n h q l m c =
 -- ── a later volume's date and time ──
 module _ (j : ℕ) (h : Held) (v : Value) (h₀ h₁ : List ℤ) (sh : Shaped 0 (file_tables false) h) (tk : Taken later_table (rows_there (part_of h 0)) j v)
     (g : Header h₀) (c : all is_count (numbers v) ≡ true) (e : h₁ ≡ kept_in false 0 j (put_line (rule_at later_table j) 64 v h₀)) where
-  later_same : (i q : ℕ) → (i ≡ j → ⊥) → (q ≡ 68 → j ≡ 3 → ⊥) → (q ≡ 69 → j ≡ 4 → ⊥) → 68 ≤ q → count_at h₀ q ≡ amount_at (slot_value (get_or (part_of h 0) i none)) 0
-      → count_at h₁ q ≡ amount_at (slot_value (get_or (part_of (enter h 0 j v) 0) i none)) 0
+  later_same : (i q : ℕ) → (i ≡ j → ⊥) → (q ≡ 68 → j ≡ 3 → ⊥) → (q ≡ 69 → j ≡ 4 → ⊥) → 68 ≤ q → count_at h₀ q ≡ amount_at (slot_value (get_or (part_of h 0) i None)) 0
+      → count_at h₁ q ≡ amount_at (slot_value (get_or (part_of (enter h 0 j v) 0) i None)) 0
   later_same i q n a b l y =
       ap (λ (t : List ℤ). count_at t q) e ∙ ap nat_abs (later_else j q (put_line (rule_at later_table j) 64 v h₀) a b l ∙ short-put 66 (rule_at later_table j) v h₀ q (later-row j tk.row) tk.fill (omega (arith, l)))
       ∙ y ∙ ap (λ (o : Option Value). amount_at (slot_value o) 0) (sym (slot_else h 0 0 j i v sh.0 (λ _. n)))
 
   new-number : (i q : ℕ) (n : Num) → j ≡ i → q < header_length → v ≡ nums (n ∷ []) → ((v : Value) (h : List ℤ) → kept_in false 0 i (put_line (rule_at later_table i) 64 v h) ≡ set (sets h 64 (numbers v)) q (get_or (sets h 64 (numbers v)) 64 (pos 0)))
-      → count_at h₁ q ≡ amount_at (slot_value (get_or (part_of (enter h 0 j v) 0) i none)) 0
+      → count_at h₁ q ≡ amount_at (slot_value (get_or (part_of (enter h 0 j v) 0) i None)) 0
   new-number i q n w m u f =
       let is-count : is_count n.value ≡ true = and_left (is_count n.value) _ (subst (λ (x : Value). all is_count (numbers x) ≡ true) u c) in
-      let slot : get_or (part_of (enter h 0 j v) 0) i none ≡ some (nums (n ∷ [])) =
-      ap (λ (o : Slots). get_or o i none) (enter-own h 0 j v sh.0) ∙ ap (λ (m : ℕ). get_or (set (part_of h 0) j (some v)) m none) (sym w)
-      ∙ get_or-set_same (part_of h 0) j (some v) none (omega (arith, tk.row, sh.1)) ∙ ap some u in
+      let slot : get_or (part_of (enter h 0 j v) 0) i None ≡ Some (nums (n ∷ [])) =
+      ap (λ (o : Slots). get_or o i None) (enter-own h 0 j v sh.0) ∙ ap (λ (m : ℕ). get_or (set (part_of h 0) j (Some v)) m None) (sym w)
+      ∙ get_or-set_same (part_of h 0) j (Some v) None (omega (arith, tk.row, sh.1)) ∙ ap Some u in
       ap (λ (t : List ℤ). count_at t q) (e ∙ ap (λ (m : ℕ). kept_in false 0 m (put_line (rule_at later_table m) 64 v h₀)) w ∙ f v h₀ ∙ ap (λ (x : Value). set (sets h₀ 64 (numbers x)) q (get_or (sets h₀ 64 (numbers x)) 64 (pos 0))) u)
       ∙ kept-number n h₀ q g.long m is-count ∙ ap (λ (o : Option Value). amount_at (slot_value o) 0) (sym slot)
 
   pub date-on : (j ≡ 3 → (n : Num) × (v ≡ nums (n ∷ []))) → count_at h₀ 68 ≡ number_of "date" later_table (part_of h 0) → count_at h₁ 68 ≡ number_of "date" later_table (part_of (enter h 0 j v) 0)
   date-on y a = go (eqb j 3) refl ∙ sym (date-slot (part_of (enter h 0 j v) 0))
     where
-      go : (b : Bool) → eqb j 3 ≡ b → count_at h₁ 68 ≡ amount_at (slot_value (get_or (part_of (enter h 0 j v) 0) 3 none)) 0
+      go : (b : Bool) → eqb j 3 ≡ b → count_at h₁ 68 ≡ amount_at (slot_value (get_or (part_of (enter h 0 j v) 0) 3 None)) 0
       go true q = let w = eqb-true j 3 q in let (n, u) = y w in new-number 3 68 n w (omega arith) u date-put
       go false q = later_same 3 68 (λ w. eqb-false j 3 q (sym w)) (λ _. eqb-false j 3 q) (λ w. absurd (omega (arith, w))) (omega arith) (a ∙ date-slot (part_of h 0))
 
   pub time-on : (j ≡ 4 → (n : Num) × (v ≡ nums (n ∷ []))) → count_at h₀ 69 ≡ number_of "time" later_table (part_of h 0) → count_at h₁ 69 ≡ number_of "time" later_table (part_of (enter h 0 j v) 0)
   time-on y a = go (eqb j 4) refl ∙ sym (time-slot (part_of (enter h 0 j v) 0))
     where
-      go : (b : Bool) → eqb j 4 ≡ b → count_at h₁ 69 ≡ amount_at (slot_value (get_or (part_of (enter h 0 j v) 0) 4 none)) 0
+      go : (b : Bool) → eqb j 4 ≡ b → count_at h₁ 69 ≡ amount_at (slot_value (get_or (part_of (enter h 0 j v) 0) 4 None)) 0
       go true q = let w = eqb-true j 4 q in let (n, u) = y w in new-number 4 69 n w (omega arith) u time-put
       go false q = later_same 4 69 (λ w. eqb-false j 4 q (sym w)) (λ w. absurd (omega (arith, w))) (λ _. eqb-false j 4 q) (omega arith) (a ∙ time-slot (part_of h 0))

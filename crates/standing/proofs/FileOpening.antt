@@ -1,8 +1,8 @@
 -- FILE_FORMAT as it opens: nothing is held yet, and the header kept apart says no more than the head of its records.
+use Rattle.std.specs.Prelude.{None}
 use Prim.Native.Nat.{ℕ, zero, suc, ◌<◌}
 use mathlib.Core.Bool.{Bool, true, false}
 use mathlib.Core.List.{List, [], ◌∷◌, map}
-use mathlib.Core.Option.{none}
 use mathlib.Core.Path.{◌≡◌, refl, sym, ◌∙◌, ap, subst}
 use native.Mathlib.Omega.{arith}
 use borrow.Author.Tests.{lt-ltb}
@@ -70,12 +70,12 @@ blank-marked true (suc (suc (suc (suc (suc q))))) l = absurd (omega (arith, l))
 blank-marked false zero l = refl
 blank-marked false (suc q) l = absurd (omega (arith, l))
 
-blank-slot : (t : List Rule) (j : ℕ) → get_or (blank t) j none ≡ none
+blank-slot : (t : List Rule) (j : ℕ) → get_or (blank t) j None ≡ None
 blank-slot [] j = refl
 blank-slot (r ∷ t) zero = refl
 blank-slot (r ∷ t) (suc j) = blank-slot t j
 
-blank-held : (ts : List (List Rule)) (q j : ℕ) → get_or (part_of (blank_held ts) q) j none ≡ none
+blank-held : (ts : List (List Rule)) (q j : ℕ) → get_or (part_of (blank_held ts) q) j None ≡ None
 blank-held [] q j = refl
 blank-held (t ∷ ts) zero j = blank-slot t j
 blank-held (t ∷ ts) (suc q) j = blank-held ts q j

@@ -1,8 +1,8 @@
 -- What the number behind the records that is E_wire's says after a line of the first volume's FILE_FORMAT.
+use Rattle.std.specs.Prelude.{Option, Some, None}
 use Prim.Native.Nat.{ℕ, ◌+◌, ◌<◌}
 use mathlib.Core.Bool.{Bool, true, false}
 use mathlib.Core.List.{List, [], ◌∷◌}
-use mathlib.Core.Option.{Option, none, some}
 use mathlib.Core.Path.{◌≡◌, refl, sym, ◌∙◌, ap, ap₂, subst}
 use native.Mathlib.Omega.{arith}
 use borrow.Author.Tests.{eqb-true, eqb-false}
@@ -26,7 +26,7 @@ use Rattle.standing.proofs.FileNames.{slot_else, kept-number}
 use Rattle.standing.proofs.HeldParts.{enter-own, shaped-at}
 
 -- by number of the row
-wires-slot : (o : Slots) → number_of "E_wire" elec_table o ≡ amount_at (slot_value (get_or o 1 none)) 0
+wires-slot : (o : Slots) → number_of "E_wire" elec_table o ≡ amount_at (slot_value (get_or o 1 None)) 0
 unfolding elec_table
 wires-slot o = refl
 
@@ -41,7 +41,7 @@ module _ (p j : ℕ) (h : Held) (v : Value) (h₀ h₁ : List ℤ) (o : PartOpen
   rows = get_or (file_tables true) p []
 
   abbrev Kept : Held → List ℤ → Type 0
-  Kept h t = count_at t 70 ≡ amount_at (slot_value (get_or (part_of h 3) 1 none)) 0
+  Kept h t = count_at t 70 ≡ amount_at (slot_value (get_or (part_of h 3) 1 None)) 0
 
   there : (p < length h) × (length (part_of h p) ≡ length rows)
   there =
@@ -60,9 +60,9 @@ module _ (p j : ℕ) (h : Held) (v : Value) (h₀ h₁ : List ℤ) (o : PartOpen
   wires-new : (i : Num) → p ≡ 3 → j ≡ 1 → v ≡ nums (i ∷ []) → Kept (enter h p j v) h₁
   wires-new i z w u =
       let is-count : is_count i.value ≡ true = and_left (is_count i.value) _ (subst (λ (x : Value). all is_count (numbers x) ≡ true) u c) in
-      let slot : get_or (part_of (enter h p j v) 3) 1 none ≡ some (nums (i ∷ [])) =
-      ap (λ (m : ℕ). get_or (part_of (enter h p j v) m) 1 none) (sym z) ∙ ap (λ (x : Slots). get_or x 1 none) (enter-own h p j v there.0)
-      ∙ ap (λ (m : ℕ). get_or (set (part_of h p) j (some v)) m none) (sym w) ∙ get_or-set_same (part_of h p) j (some v) none (omega (arith, tk.row, there.1)) ∙ ap some u in
+      let slot : get_or (part_of (enter h p j v) 3) 1 None ≡ Some (nums (i ∷ [])) =
+      ap (λ (m : ℕ). get_or (part_of (enter h p j v) m) 1 None) (sym z) ∙ ap (λ (x : Slots). get_or x 1 None) (enter-own h p j v there.0)
+      ∙ ap (λ (m : ℕ). get_or (set (part_of h p) j (Some v)) m None) (sym w) ∙ get_or-set_same (part_of h p) j (Some v) None (omega (arith, tk.row, there.1)) ∙ ap Some u in
       ap (λ (t : List ℤ). count_at t 70)
       (e ∙ ap₂ (λ (a b : ℕ). kept_in true a b (put_line (rule_at (get_or (file_tables true) a []) b) 64 v h₀)) z w ∙ wires-put v h₀
       ∙ ap (λ (x : Value). set (sets h₀ 64 (numbers x)) 70 (get_or (sets h₀ 64 (numbers x)) 64 (pos 0))) u)

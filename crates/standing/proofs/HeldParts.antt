@@ -1,7 +1,7 @@
 -- A slot entered in one of the parts that a block holds: that part with the slot, the others as they were, and all of them as long.
+use Rattle.std.specs.Prelude.{Some}
 use Prim.Native.Nat.{ℕ, zero, suc, ◌+◌, ◌<◌}
 use mathlib.Core.List.{List, [], ◌∷◌}
-use mathlib.Core.Option.{some}
 use mathlib.Core.Path.{◌≡◌, refl, ◌∙◌, ap}
 use native.Mathlib.Omega.{arith}
 use lib.ListN.{length, get_or, set, length-set}
@@ -11,14 +11,14 @@ use Rattle.rules.specs.Rows.{Rule, Held, part_of, enter}
 use Rattle.account.specs.Placing.{Shaped}
 
 pub enter-other : (h : Held) (p q j : ℕ) (v : Value) → (q ≡ p → ⊥) → part_of (enter h p j v) q ≡ part_of h q
-enter-other h p q j v n = get_or-set_other h p q (set (part_of h p) j (some v)) [] n
+enter-other h p q j v n = get_or-set_other h p q (set (part_of h p) j (Some v)) [] n
 
-pub enter-own : (h : Held) (p j : ℕ) (v : Value) → p < length h → part_of (enter h p j v) p ≡ set (part_of h p) j (some v)
-enter-own h p j v l = get_or-set_same h p (set (part_of h p) j (some v)) [] l
+pub enter-own : (h : Held) (p j : ℕ) (v : Value) → p < length h → part_of (enter h p j v) p ≡ set (part_of h p) j (Some v)
+enter-own h p j v l = get_or-set_same h p (set (part_of h p) j (Some v)) [] l
 
 enter-length : (h : Held) (p q j : ℕ) (v : Value) → length (part_of (enter h p j v) q) ≡ length (part_of h q)
 enter-length [] p q j v = refl
-enter-length (s ∷ h) zero zero j v = length-set s j (some v)
+enter-length (s ∷ h) zero zero j v = length-set s j (Some v)
 enter-length (s ∷ h) zero (suc q) j v = refl
 enter-length (s ∷ h) (suc p) zero j v = refl
 enter-length (s ∷ h) (suc p) (suc q) j v = enter-length h p q j v
@@ -27,7 +27,7 @@ enter-length (s ∷ h) (suc p) (suc q) j v = enter-length h p q j v
 pub shaped-enter : (ts : List (List Rule)) (q : ℕ) (h : Held) (p j : ℕ) (v : Value) → Shaped q ts h → Shaped q ts (enter h p j v)
 shaped-enter [] q h p j v s = tt
 shaped-enter (t ∷ ts) q h p j v s = (
-  omega (arith, s.0, length-set h p (set (part_of h p) j (some v))),
+  omega (arith, s.0, length-set h p (set (part_of h p) j (Some v))),
   enter-length h p q j v ∙ s.1,
   shaped-enter ts (suc q) h p j v s.2,
 )

@@ -1,9 +1,9 @@
 -- Where an act came from: a line that entered a row, or opened a block, had that row's key, and its content was read as the row's kind.
+use Rattle.std.specs.Prelude.{Option, Some, None}
 use Prim.Native.Nat.{ℕ, ◌≤◌}
 use mathlib.Core.Bool.{Bool, true, false, cond}
 use mathlib.Core.List.{List, [], ◌∷◌}
 use mathlib.Core.Path.{◌≡◌, refl, sym, ◌∙◌, ap, subst}
-use mathlib.Core.Option.{Option, none, some}
 use native.Mathlib.Omega.{arith}
 use lib.ListN.{get_or}
 use Rattle.rules.specs.declared.Digits.{Digits}
@@ -124,11 +124,11 @@ rest_read k j r (equals at []) v i e = clash i refl
 rest_read k j r (equals at (b ∷ c)) v i e = by-stem (stem (b ∷ c)) i e
   where
     by-stem : (o : Option (List ℕ)) → is_content (by_stem at (b ∷ c) o) ≡ true → read_shape k j r (by_stem at (b ∷ c) o) ≡ got (entry j v) → ContentRead k r.holds (equals at (b ∷ c)) v
-    by-stem none i e =
+    by-stem None i e =
         let (w, p, q) = map-got (entry j) (read_kind k r.holds at (b ∷ c)) (entry j v) e in
         record { at = at; bytes = b ∷ c; behind = refl; filled = refl; long = omega arith; read = p ∙ ap got (ap value_of q) }
-    by-stem (some []) i e = clash i refl
-    by-stem (some (q ∷ t)) i e = clash i refl
+    by-stem (Some []) i e = clash i refl
+    by-stem (Some (q ∷ t)) i e = clash i refl
 
 pub content-read : (k : Known) (t : List Rule) (d : Digits) (full : List Bool) (f : Form) (j : ℕ) (v : Value) (x : From k t d full f j (entry j v))
     → ContentKind x.rule.holds → x.rule.may ≡ false → ContentRead k x.rule.holds x.rest v

@@ -1,8 +1,8 @@
 -- A layer's line and a point's, of a `successive` or of a symbol's `hide`: each is a record, complete where it is taken.
+use Rattle.std.specs.Prelude.{Some}
 use Prim.Native.Nat.{ℕ, ◌+◌, ◌*◌}
 use mathlib.Core.Bool.{true}
 use mathlib.Core.List.{List, [], ◌∷◌, ◌++◌, append_assoc}
-use mathlib.Core.Option.{some}
 use mathlib.Core.Path.{◌≡◌, refl, sym, ◌∙◌, ap}
 use native.Mathlib.Omega.{arith}
 use lib.IntN.{ℤ}
@@ -36,10 +36,10 @@ layer-fills c s d y records all t put =
 
 -- a point's record
 abbrev pub point_record : ℕ → ℕ → ℕ → Point → List ℤ
-point_record kind owner volume p = put_slot (rule_at (point_table true) 0) (some (nums p.values)) (start kind owner volume p.line)
+point_record kind owner volume p = put_slot (rule_at (point_table true) 0) (Some (nums p.values)) (start kind owner volume p.line)
 
 pub point-long : (kind owner volume : ℕ) (p : Point) → length (point_record kind owner volume p) ≡ 32
-point-long kind owner volume p = length-slot (rule_at (point_table true) 0) (some (nums p.values)) (start kind owner volume p.line)
+point-long kind owner volume p = length-slot (rule_at (point_table true) 0) (Some (nums p.values)) (start kind owner volume p.line)
 
 pub points-size : (kind owner volume : ℕ) (ps : List Point) → length (flat (point_records kind owner volume ps)) ≡ 32 * length ps
 points-size kind owner volume [] = refl

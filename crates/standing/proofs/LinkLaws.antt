@@ -1,7 +1,7 @@
 -- The links of a set's serial numbers are its own numbers and its partners, as the definitions collect them.
+use Rattle.std.specs.Prelude.{Option, Some, None}
 use Prim.Native.Nat.{ℕ}
 use mathlib.Core.List.{List, [], ◌∷◌, ◌++◌, map, append-nil}
-use mathlib.Core.Option.{Option, none, some}
 use mathlib.Core.Path.{◌≡◌, refl, ◌∙◌, ap}
 use lib.ListN.{get_or, drop}
 use Rattle.rules.specs.Base.{flat}
@@ -58,15 +58,15 @@ own-symbol [] = refl
 own-symbol (n ∷ ps) = refl
 
 own-wire : (o : Option Value) → owns_in (wire_links o) ≡ own_number o
-own-wire none = refl
-own-wire (some v) = refl
+own-wire None = refl
+own-wire (Some v) = refl
 
 own-figure : (f : Figure) → owns_in (figure_links f) ≡ figure_serial f
 own-figure (plain n j v) = refl
 own-figure (chain n ps) = refl
 own-figure (lettering n s) = refl
 own-figure (placed n h) = own-symbol (serials_of (slot_value (held "serial" placed_table (part_of h 0))))
-own-figure (wired n w) = own-wire (get_or w.own wire_serial_row none)
+own-figure (wired n w) = own-wire (get_or w.own wire_serial_row None)
 own-figure (passed n) = refl
 
 -- of the set and of the layer that is open: those that a new number must differ from
@@ -83,15 +83,15 @@ partners-symbol [] = refl
 partners-symbol (n ∷ ps) = append-nil ps
 
 partners-wire : (o : Option Value) → partners_of (wire_links o) ≡ wire_partners (slot_value o)
-partners-wire none = refl
-partners-wire (some v) = append-nil (wire_partners v)
+partners-wire None = refl
+partners-wire (Some v) = append-nil (wire_partners v)
 
 partners-figure : (f : Figure) → partners_of (figure_links f) ≡ figure_partners f
 partners-figure (plain n j v) = refl
 partners-figure (chain n ps) = refl
 partners-figure (lettering n s) = refl
 partners-figure (placed n h) = partners-symbol (serials_of (slot_value (held "serial" placed_table (part_of h 0))))
-partners-figure (wired n w) = partners-wire (get_or w.own wire_serial_row none)
+partners-figure (wired n w) = partners-wire (get_or w.own wire_serial_row None)
 partners-figure (passed n) = refl
 
 pub links-partners : (s : Set) → partners_of (closed_links s) ≡ flat (map partners_of_volume s.volumes)

@@ -1,8 +1,8 @@
 -- Slots and the marks of what has been.
+use Rattle.std.specs.Prelude.{Option, Some, None}
 use Prim.Native.Nat.{ℕ, zero, suc}
 use mathlib.Core.Bool.{Bool, true, false, ◌||◌, not}
 use mathlib.Core.List.{List, [], ◌∷◌}
-use mathlib.Core.Option.{Option, none, some}
 use mathlib.Core.Path.{◌≡◌, refl, ap, sym, ◌∙◌}
 use lib.ListN.{length, get_or, set}
 use Rattle.rules.specs.Base.{is_some}
@@ -14,16 +14,16 @@ use Rattle.rules.proofs.Chains.{clash}
 use Rattle.rules.proofs.Rows.{reaches-none}
 
 -- a slot entered is a mark set
-pub marks-set : (o : Slots) (j : ℕ) (v : Value) → rows_there (set o j (some v)) ≡ set (rows_there o) j true
+pub marks-set : (o : Slots) (j : ℕ) (v : Value) → rows_there (set o j (Some v)) ≡ set (rows_there o) j true
 marks-set [] j v = refl
 marks-set (x ∷ o) zero v = refl
 marks-set (x ∷ o) (suc j) v = ap (λ (s : List Bool). is_some x ∷ s) (marks-set o j v)
 
 -- a row without a mark has an empty slot
-pub mark-free : (o : Slots) (j : ℕ) → get_or (rows_there o) j false ≡ false → get_or o j none ≡ none
+pub mark-free : (o : Slots) (j : ℕ) → get_or (rows_there o) j false ≡ false → get_or o j None ≡ None
 mark-free [] j e = refl
-mark-free (none ∷ o) zero e = refl
-mark-free (some v ∷ o) zero e = clash refl e
+mark-free (None ∷ o) zero e = refl
+mark-free (Some v ∷ o) zero e = clash refl e
 mark-free (x ∷ o) (suc j) e = mark-free o j e
 
 pub marks-length : (o : Slots) → length (rows_there o) ≡ length o

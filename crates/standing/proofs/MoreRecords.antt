@@ -1,8 +1,8 @@
 -- The records of a set's parts, as a line or a closed block adds to them.
+use Rattle.std.specs.Prelude.{Some}
 use Prim.Native.Nat.{ℕ, suc, ◌+◌}
 use mathlib.Core.Bool.{Bool, true, false, cond, not}
 use mathlib.Core.List.{List, [], ◌∷◌, ◌++◌, map, append_assoc, append-nil}
-use mathlib.Core.Option.{some}
 use mathlib.Core.Path.{◌≡◌, refl, sym, ◌∙◌, ap}
 use native.Mathlib.Omega.{arith}
 use lib.Dec.{eqb}
@@ -36,7 +36,7 @@ from_zero n = omega arith
 pub more-points : (kind owner volume : ℕ) (ps : List Point) (p : Point) → point_records kind owner volume (ps ++ p ∷ []) ≡ point_records kind owner volume ps ++ point_records kind owner volume (p ∷ [])
 more-points kind owner volume [] p = refl
 more-points kind owner volume (q ∷ ps) p =
-    ap (λ (u : Records). put_slot (rule_at (point_table true) 0) (some (nums q.values)) (start kind owner volume q.line) ∷ u) (more-points kind owner volume ps p)
+    ap (λ (u : Records). put_slot (rule_at (point_table true) 0) (Some (nums q.values)) (start kind owner volume q.line) ∷ u) (more-points kind owner volume ps p)
 
 -- ── layers ──
 pub more-layers : (n : ℕ) (ls : List Layer) (l : Layer) → layer_records n (ls ++ l ∷ []) ≡ layer_records n ls ++ layer_record (n + length ls) l ∷ []

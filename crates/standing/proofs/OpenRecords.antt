@@ -1,8 +1,8 @@
 -- The record of a block that is open: how long it is, as it begins, and with one more line of it.
+use Rattle.std.specs.Prelude.{Some}
 use Prim.Native.Nat.{ℕ, ◌+◌, ◌<◌}
 use mathlib.Core.Bool.{Bool, true}
 use mathlib.Core.List.{List, [], ◌∷◌}
-use mathlib.Core.Option.{some}
 use mathlib.Core.Path.{◌≡◌, refl, sym, ◌∙◌, ap}
 use lib.IntN.{ℤ, pos}
 use lib.ListN.{length, get_or, set, drop}
@@ -49,7 +49,7 @@ unfolding drawing_table
 begun-drawing line = refl
 
 pub drawing-entry : (g : Drawing) (j : ℕ) (v : Value) → length g.own ≡ 8 → Taken drawing_table (rows_there g.own) j v
-    → put_line (rule_at drawing_table j) 0 v (drawing_record g) ≡ drawing_record (with_own (set g.own j (some v)) g)
+    → put_line (rule_at drawing_table j) 0 v (drawing_record g) ≡ drawing_record (with_own (set g.own j (Some v)) g)
 drawing-entry g j v e k =
     own_line drawing_table g.own j v (start 3 0 1 g.line) (e ∙ sym eight-rows) k.row (mark-free g.own j k.free) k.fill clear-drawing housed-drawing
 
@@ -92,12 +92,12 @@ pub text-length : (more owner volume line : ℕ) (o : Slots) → length (text_re
 text-length more owner volume line o = length-slots (text_rows true) o (start (15 + more) owner volume line)
 
 pub text-entry : (b : Bool) (o : Slots) (j : ℕ) (v : Value) (more owner volume line : ℕ) → length o ≡ 2 → Taken (text_rows b) (rows_there o) j v
-    → put_line (rule_at (text_rows b) j) 0 v (text_record more owner volume line o) ≡ text_record more owner volume line (set o j (some v))
+    → put_line (rule_at (text_rows b) j) 0 v (text_record more owner volume line o) ≡ text_record more owner volume line (set o j (Some v))
 text-entry b o j v more owner volume line e k =
     let f : List ℤ = start (15 + more) owner volume line in
     ap (put_line (rule_at (text_rows b) j) 0 v) (sym (same_rows b o f))
     ∙ own_line (text_rows b) o j v f (e ∙ sym (two-rows b)) k.row (mark-free o j k.free) k.fill (clear-text b) (housed-text b)
-    ∙ same_rows b (set o j (some v)) f
+    ∙ same_rows b (set o j (Some v)) f
 
 pub text-figure : (c : Class) (s : Set) (h : Home) (n : ℕ) (o : Slots) → home_figure c s h (lettering n o) ≡ text_record (home_more h) (home_owner s h) (home_volume s h) n o ∷ []
 text-figure c s (in_element y) n o = refl

@@ -1,7 +1,7 @@
 -- A wire that is open: the counts of its keys that repeat, as they stand on the scratch, and what the code needs in it.
+use Rattle.std.specs.Prelude.{Option, Some, None}
 use Prim.Native.Nat.{ℕ, zero, suc, ◌+◌, ◌≤◌, ◌<◌}
 use mathlib.Core.List.{List, ◌++◌}
-use mathlib.Core.Option.{Option, none, some}
 use mathlib.Core.Path.{◌≡◌, refl, sym, ◌∙◌, ap, subst}
 use native.Mathlib.Omega.{arith}
 use lib.IntN.{ℤ, pos, nat_abs}
@@ -37,10 +37,10 @@ pub record Counts (t : List ℤ) (direcs piends nums texts : ℕ) : Type 0 where
 -- whatever is known of the last element, and whether a text is open or not
 wire-counts : (o : Option Edge) (p : ℕ) (g₀ g₁ g₂ : List (List Num)) (ts : List Slots) (b : List ℤ)
     → Counts (former_numbers o (text_begun p (spelled g₀ g₁ g₂ ts b))) (length g₀) (length g₁) (length g₂) (length ts)
-wire-counts none zero g₀ g₁ g₂ ts b = record { direcs-at = refl; piends-at = refl; nums_at = refl; texts-at = refl }
-wire-counts none (suc p) g₀ g₁ g₂ ts b = record { direcs-at = refl; piends-at = refl; nums_at = refl; texts-at = refl }
-wire-counts (some e) zero g₀ g₁ g₂ ts b = record { direcs-at = refl; piends-at = refl; nums_at = refl; texts-at = refl }
-wire-counts (some e) (suc p) g₀ g₁ g₂ ts b = record { direcs-at = refl; piends-at = refl; nums_at = refl; texts-at = refl }
+wire-counts None zero g₀ g₁ g₂ ts b = record { direcs-at = refl; piends-at = refl; nums_at = refl; texts-at = refl }
+wire-counts None (suc p) g₀ g₁ g₂ ts b = record { direcs-at = refl; piends-at = refl; nums_at = refl; texts-at = refl }
+wire-counts (Some e) zero g₀ g₁ g₂ ts b = record { direcs-at = refl; piends-at = refl; nums_at = refl; texts-at = refl }
+wire-counts (Some e) (suc p) g₀ g₁ g₂ ts b = record { direcs-at = refl; piends-at = refl; nums_at = refl; texts-at = refl }
 
 start-counts : (k volume n : ℕ) → Counts (wire_start k volume n) 0 0 0 0
 start-counts k volume n = record { direcs-at = refl; piends-at = refl; nums_at = refl; texts-at = refl }

@@ -1,9 +1,9 @@
 -- The number of the open drawing's, symbol's or FILE_FORMAT's record, kept from line to line.
+use Rattle.std.specs.Prelude.{Some}
 use Prim.Native.Nat.{ℕ, zero, suc, ◌+◌, ◌*◌}
 use mathlib.Core.Bool.{Bool, true, false, ◌&&◌, ◌||◌, not}
 use mathlib.Core.List.{List, [], ◌∷◌, map}
 use mathlib.Core.Path.{◌≡◌, sym, ◌∙◌, ap, subst}
-use mathlib.Core.Option.{some}
 use borrow.Author.Tests.{eqb-true}
 use lib.Dec.{eqb, leb, ltb}
 use lib.IntN.{ℤ}
@@ -99,7 +99,7 @@ module _ (c : Class) (e : Env) (l : Line) (records : ℕ) where
     own-symbol : (s : Set) (y : Symbol) (f : Form) → P (symbol s y) → On P (on_symbol s y f)
     own-symbol s y f i =
         on-by_act P _ _ _ _ (act (known_of s) symbol_table (digits_of (define_range s)) (rows_there y.own) f) i
-        (λ j v. on-unless P (new_name s (symbol_own (set y.own j (some v)) y)) 15 _ λ _. i) (λ m j v _. own-part s (symbol_own (set y.own j (some v)) y) m i) tt
+        (λ j v. on-unless P (new_name s (symbol_own (set y.own j (Some v)) y)) 15 _ λ _. i) (λ m j v _. own-part s (symbol_own (set y.own j (Some v)) y) m i) tt
 
     own-hide : (s : Set) (y : Symbol) (ps : List Point) (f : Form) → P (hide s y ps) → On P (on_hide e l s y ps f)
     own-hide s y ps f i =

@@ -1,8 +1,8 @@
 -- A line put into its block's own record: the record with one slot more.
+use Rattle.std.specs.Prelude.{Some, None}
 use Prim.Native.Nat.{ℕ, zero, suc, ◌<◌}
 use mathlib.Core.Bool.{Bool, true, ◌||◌, not}
 use mathlib.Core.List.{List, [], ◌∷◌}
-use mathlib.Core.Option.{none, some}
 use mathlib.Core.Path.{◌≡◌, refl, sym, ◌∙◌, ap}
 use native.Mathlib.Omega.{arith}
 use borrow.Author.Tests.{eqb-true}
@@ -34,13 +34,13 @@ line-value r v t g f = ap (put_state r.state (given v)) (go r.place g)
     go zero h = ap (λ (zs : List ℤ). sets t 0 zs) (no-numbers r.holds (numbers v) (eqb-true (columns r.holds) 0 h) f)
     go (suc p) h = refl
 
-pub own_line : (t : List Rule) (s : Slots) (j : ℕ) (v : Value) (b : List ℤ) → length s ≡ length t → j < length t → get_or s j none ≡ none → fills (rule_at t j).holds (numbers v) ≡ true
-    → clear_table t ≡ true → all housed t ≡ true → put_line (rule_at t j) 0 v (put_slots t s b) ≡ put_slots t (set s j (some v)) b
+pub own_line : (t : List Rule) (s : Slots) (j : ℕ) (v : Value) (b : List ℤ) → length s ≡ length t → j < length t → get_or s j None ≡ None → fills (rule_at t j).holds (numbers v) ≡ true
+    → clear_table t ≡ true → all housed t ≡ true → put_line (rule_at t j) 0 v (put_slots t s b) ≡ put_slots t (set s j (Some v)) b
 own_line t s j v b n h e f c g = line-value (rule_at t j) v (put_slots t s b) (all-at housed t j h g) f ∙ sym (slots_set t s j v b n h e f c)
 
 -- ── slots ──
 -- what is empty was empty
-pub was-none : (s : Slots) (i j : ℕ) (v : Value) → is_none (get_or (set s j (some v)) i none) ≡ true → is_none (get_or s i none) ≡ true
+pub was-none : (s : Slots) (i j : ℕ) (v : Value) → is_none (get_or (set s j (Some v)) i None) ≡ true → is_none (get_or s i None) ≡ true
 was-none [] i j v e = refl
 was-none (o ∷ s) zero zero v e = clash e refl
 was-none (o ∷ s) zero (suc j) v e = e

@@ -1,8 +1,8 @@
 -- What is computed of a placed symbol's tables, and which values its lines have: those of the row `serial` are serial numbers, no others.
+use Rattle.std.specs.Prelude.{None}
 use Prim.Native.Nat.{ℕ, zero, suc, ◌<◌}
 use mathlib.Core.Bool.{Bool, true, false, ◌&&◌, not}
 use mathlib.Core.List.{List, [], ◌∷◌, map}
-use mathlib.Core.Option.{none}
 use mathlib.Core.Path.{◌≡◌, refl, sym, ◌∙◌, ap}
 use native.Mathlib.Omega.{arith}
 use lib.Dec.{eqb, leb}
@@ -144,6 +144,6 @@ unfolding text_table
 blank-marks n e = ap (λ (m : ℕ). replicate m false) e
 
 -- ── the serial number of a placed symbol ──
-pub figure-serial : (n : ℕ) (o : Held) → figure_links (placed n o) ≡ symbol_links (serials_of (slot_value (get_or (part_of o 0) 5 none)))
+pub figure-serial : (n : ℕ) (o : Held) → figure_links (placed n o) ≡ symbol_links (serials_of (slot_value (get_or (part_of o 0) 5 None)))
 unfolding placed_table
 figure-serial n o = refl

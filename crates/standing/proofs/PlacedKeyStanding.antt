@@ -1,8 +1,8 @@
 -- A line of a key that the class knows, directly in a placed symbol: from the code's answer to the step that the definitions make.
+use Rattle.std.specs.Prelude.{Option, Some, None}
 use Prim.Native.Nat.{ℕ, ◌≤◌, ◌<◌}
 use mathlib.Core.Bool.{Bool, true, false, cond, ◌&&◌, not}
 use mathlib.Core.List.{List, []}
-use mathlib.Core.Option.{Option, none, some}
 use mathlib.Core.Path.{◌≡◌, refl, sym, ◌∙◌, ap, subst}
 use native.Mathlib.Omega.{arith}
 use borrow.Author.Tests.{eqb-true, eqb-false}
@@ -87,8 +87,8 @@ module _ (c : Class) (spool : List ℕ) (k : ℕ) (FileHere : Desk → Set → �
       take-set-lt 6 d.marks i true h ∙ ap (λ (b : List Bool). set b i true) inp.marked ∙ sym (marks-set (part_of o 0) i v) ∙ ap rows_there (sym (enter-own o 0 i v inp.shaped.0))
 
   -- the other rows stay
-  other-slot : (i q : ℕ) (v : Value) → (q ≡ i → ⊥) → get_or (part_of (enter o 0 i v) 0) q none ≡ get_or (part_of o 0) q none
-  other-slot i q v h = ap (λ (y : Slots). get_or y q none) (enter-own o 0 i v inp.shaped.0) ∙ get_or-set_other (part_of o 0) i q (some v) none h
+  other-slot : (i q : ℕ) (v : Value) → (q ≡ i → ⊥) → get_or (part_of (enter o 0 i v) 0) q None ≡ get_or (part_of o 0) q None
+  other-slot i q v h = ap (λ (y : Slots). get_or y q None) (enter-own o 0 i v inp.shaped.0) ∙ get_or-set_other (part_of o 0) i q (Some v) None h
 
   text-kept : (i : ℕ) (v : Value) → part_of (enter o 0 i v) 1 ≡ part_of o 1
   text-kept i v = enter-other o 0 1 i v (λ y. omega (arith, y))
@@ -102,7 +102,7 @@ module _ (c : Class) (spool : List ℕ) (k : ℕ) (FileHere : Desk → Set → �
     shaped = shaped-enter placed_tables 0 o 0 i v inp.shaped;
     marked = marked_more i v h;
     inner = λ y. absurd (omega (arith, y));
-    unopened = λ y. text-kept i v ∙ inp.unopened (was-none (part_of o 0) 1 i v (ap (λ (b : Slots). is_none (get_or b 1 none)) (sym (enter-own o 0 i v inp.shaped.0)) ∙ y));
+    unopened = λ y. text-kept i v ∙ inp.unopened (was-none (part_of o 0) 1 i v (ap (λ (b : Slots). is_none (get_or b 1 None)) (sym (enter-own o 0 i v inp.shaped.0)) ∙ y));
     opened = λ y. absurd (omega (arith, y));
   }
 
@@ -201,11 +201,11 @@ module _ (c : Class) (spool : List ℕ) (k : ℕ) (FileHere : Desk → Set → �
           abbrev st₅ : State
           st₅ = placing s m fs n (symbol_block o₅) 0
 
-          free : get_or (part_of o 0) 5 none ≡ none
-          free = ap (λ (y : ℕ). get_or (part_of o 0) y none) (sym five) ∙ mark-free (part_of o 0) i taken.free
+          free : get_or (part_of o 0) 5 None ≡ None
+          free = ap (λ (y : ℕ). get_or (part_of o 0) y None) (sym five) ∙ mark-free (part_of o 0) i taken.free
 
-          slot-now : get_or (part_of o₅ 0) 5 none ≡ some v
-          slot-now = ap (λ (y : Slots). get_or y 5 none) (enter-own o 0 5 v inp.shaped.0) ∙ get_or-set_same (part_of o 0) 5 (some v) none (omega (arith, six))
+          slot-now : get_or (part_of o₅ 0) 5 None ≡ Some v
+          slot-now = ap (λ (y : Slots). get_or y 5 None) (enter-own o 0 5 v inp.shaped.0) ∙ get_or-set_same (part_of o 0) 5 (Some v) None (omega (arith, six))
 
           abbrev links-by : Option Value → List (List ℕ)
           links-by y = symbol_links (numbers_of (slot_value y))
@@ -283,11 +283,11 @@ module _ (c : Class) (spool : List ℕ) (k : ℕ) (FileHere : Desk → Set → �
           let o' : Held = enter o 0 j v in
           let now : Now = at_block d.now 11 1 in
           let st₁ : State = placing s m fs n (symbol_block o') 1 in
-          let row_in : part_of o' 0 ≡ set (part_of o 0) j (some v) = enter-own o 0 j v inp.shaped.0 in
-          let there : is_none (get_or (part_of o' 0) 1 none) ≡ false =
-          ap (λ (t : Slots). is_none (get_or t 1 none)) row_in ∙ ap (λ (t : ℕ). is_none (get_or (set (part_of o 0) t (some v)) 1 none)) one
-          ∙ ap is_none (get_or-set_same (part_of o 0) 1 (some v) none (omega (arith, six))) in
-          let free : is_none (get_or (part_of o 0) 1 none) ≡ true = ap (λ (t : ℕ). is_none (get_or (part_of o 0) t none)) (sym one) ∙ ap is_none (mark-free (part_of o 0) j taken.free) in
+          let row_in : part_of o' 0 ≡ set (part_of o 0) j (Some v) = enter-own o 0 j v inp.shaped.0 in
+          let there : is_none (get_or (part_of o' 0) 1 None) ≡ false =
+          ap (λ (t : Slots). is_none (get_or t 1 None)) row_in ∙ ap (λ (t : ℕ). is_none (get_or (set (part_of o 0) t (Some v)) 1 None)) one
+          ∙ ap is_none (get_or-set_same (part_of o 0) 1 (Some v) None (omega (arith, six))) in
+          let free : is_none (get_or (part_of o 0) 1 None) ≡ true = ap (λ (t : ℕ). is_none (get_or (part_of o 0) t None)) (sym one) ∙ ap is_none (mark-free (part_of o 0) j taken.free) in
           goes-still c spool k FileHere own l to st d₁ now st₁ (h ∙ ap (acted _ _ _ _) a ∙ ap (λ (t : ℕ). got (placing s m fs n (symbol_block o') t)) part-so) z.block.0 refl refl refl
           (subst (λ (t : Lent). StandsAt c spool k FileHere (desk_now (lent_desk d t rec₁) now) to st₁) (sym y)
           (placing-on c spool k FileHere d at to s m fs n o 0 z now (set d.marks j true) (replicate (length d.inner) false) rec₁ o' 1 later

@@ -1,8 +1,8 @@
 -- A placed symbol's record on the scratch, and what a line there that reads no serial number keeps.
+use Rattle.std.specs.Prelude.{Option, None}
 use Prim.Native.Nat.{ℕ, ◌+◌, ◌*◌, ◌≤◌, ◌<◌}
 use mathlib.Core.Bool.{Bool, true}
 use mathlib.Core.List.{List, [], ◌++◌}
-use mathlib.Core.Option.{Option, none}
 use mathlib.Core.Path.{◌≡◌, sym, ◌∙◌, ap, subst}
 use native.Mathlib.Omega.{arith}
 use lib.IntN.{ℤ}
@@ -83,7 +83,7 @@ module _ (c : Class) (spool : List ℕ) (k : ℕ) (FileHere : Desk → Set → �
 
   -- a line that reads no serial number
   pub placing-on : (now : Now) (ms is : List Bool) (u : List ℤ) (o' : Held) (p' : ℕ) → at ≤ to → length ms ≡ 28 → length is ≡ 2
-      → Scratch (with_part 32 u d.scratch) (placing s m fs n (symbol_block o') p') → get_or (part_of o 0) 5 none ≡ get_or (part_of o' 0) 5 none → now.block ≡ 11 → InPlaced spool k now ms is s m fs o' p'
+      → Scratch (with_part 32 u d.scratch) (placing s m fs n (symbol_block o') p') → get_or (part_of o 0) 5 None ≡ get_or (part_of o' 0) 5 None → now.block ≡ 11 → InPlaced spool k now ms is s m fs o' p'
       → Stands c spool k (desk_with d now ms is (with_part 32 u d.scratch)) (FileHere (desk_with d now ms is (with_part 32 u d.scratch))) to (placing s m fs n (symbol_block o') p')
   placing-on now ms is u o' p' later lm li scratch same b w =
       let st : State = placing s m fs n (symbol_block o) p in

@@ -1,8 +1,8 @@
 -- A line in the text of a placed symbol: from the code's answer to the step that the definitions make.
+use Rattle.std.specs.Prelude.{Option, None}
 use Prim.Native.Nat.{ℕ, ◌≤◌}
 use mathlib.Core.Bool.{Bool, true, not}
 use mathlib.Core.List.{List, []}
-use mathlib.Core.Option.{Option, none}
 use mathlib.Core.Path.{◌≡◌, refl, sym, ◌∙◌, ap, subst}
 use native.Mathlib.Omega.{arith}
 use borrow.Author.Tests.{not-true}
@@ -114,12 +114,12 @@ module _ (c : Class) (spool : List ℕ) (k : ℕ) (FileHere : Desk → Set → �
         let o' : Held = enter o 1 j v in
         let st' : State = placing s m fs n (symbol_block o') 1 in
         let same : part_of o' 0 ≡ part_of o 0 = enter-other o 1 0 j v (λ y. omega (arith, y)) in
-        let first : Slots → Option Value = λ y. get_or y 1 none in
+        let first : Slots → Option Value = λ y. get_or y 1 None in
         goes-still c spool k FileHere own l to st d₁ d.now st' (ap (acted _ _ _ _) a ∙ ap (λ (y : List ℕ). unless (none_of (own_serial y) (numbers_so_far s fs)) 15 (got st')) plain) refl refl refl refl
         (placing-on c spool k FileHere d at to s m fs n o 1 z d.now d.marks is rec₁ o' 1 later z.lengths.marks
         (ap length i ∙ length-set d.inner j true ∙ z.lengths.inner)
         (record-entered c spool k FileHere d at to s m fs n o 1 z 1 1 j v rec₁ (omega arith) taken (q ∙ ap (λ (y : List Rule). put_line (rule_at y j) 0 v rec₀) text-rows))
-        (ap (λ (y : Slots). get_or y 5 none) (sym same)) z.block.0
+        (ap (λ (y : Slots). get_or y 5 None) (sym same)) z.block.0
         (record {
           home = inp.home;
           figures = inp.figures;

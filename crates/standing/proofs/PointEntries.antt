@@ -1,8 +1,8 @@
 -- A line that enters a point, in a `successive` or in a symbol's `hide`: what it holds, and its record.
+use Rattle.std.specs.Prelude.{Some}
 use Prim.Native.Nat.{ℕ, ◌<◌}
 use mathlib.Core.Bool.{Bool, true, false}
 use mathlib.Core.List.{List, [], ◌∷◌}
-use mathlib.Core.Option.{some}
 use mathlib.Core.Path.{◌≡◌, refl, sym, ◌∙◌, ap, subst}
 use native.Mathlib.Omega.{arith}
 use borrow.Author.Tests.{leb-false}
@@ -48,7 +48,7 @@ one-row b = refl
 
 -- a point's record
 point_record_lem : (b : Bool) (v : Value) (kind owner volume line : ℕ) → fills (rule_at (point_table b) 0).holds (numbers v) ≡ true
-    → sets (put_line (rule_at (point_table b) 0) 0 v empty_record) 0 (pos kind ∷ pos owner ∷ pos volume ∷ pos line ∷ []) ≡ put_slot (rule_at (point_table true) 0) (some v) (start kind owner volume line)
+    → sets (put_line (rule_at (point_table b) 0) 0 v empty_record) 0 (pos kind ∷ pos owner ∷ pos volume ∷ pos line ∷ []) ≡ put_slot (rule_at (point_table true) 0) (Some v) (start kind owner volume line)
 unfolding point_table
 point_record_lem b v kind owner volume line f = row_record (rule_at (point_table b) 0) 3 v kind owner volume line refl (omega arith) refl refl refl f
 
@@ -83,16 +83,16 @@ module _ (b : Bool) (known : Known) (count : ℕ) (f : Form) (j : ℕ) (v : Valu
 
   -- its numbers put over zeros, and its head before them
   point-made : (kind owner volume line : ℕ)
-      → sets (put_line (rule_at rows j) 0 v empty_record) 0 (pos kind ∷ pos owner ∷ pos volume ∷ pos line ∷ []) ≡ put_slot (rule_at (point_table true) 0) (some (nums (nums_of v))) (start kind owner volume line)
+      → sets (put_line (rule_at rows j) 0 v empty_record) 0 (pos kind ∷ pos owner ∷ pos volume ∷ pos line ∷ []) ≡ put_slot (rule_at (point_table true) 0) (Some (nums (nums_of v))) (start kind owner volume line)
   point-made kind owner volume line =
       ap (λ (i : ℕ). sets (put_line (rule_at rows i) 0 v empty_record) 0 (pos kind ∷ pos owner ∷ pos volume ∷ pos line ∷ [])) point-first
       ∙ point_record_lem b v kind owner volume line (subst (λ (i : ℕ). fills (rule_at rows i).holds (numbers v) ≡ true) point-first point-taken.fill)
-      ∙ ap (λ (y : Value). put_slot (rule_at (point_table true) 0) (some y) (start kind owner volume line)) point-nums
+      ∙ ap (λ (y : Value). put_slot (rule_at (point_table true) 0) (Some y) (start kind owner volume line)) point-nums
 
   -- .. as its line makes it, where the lent record is zeros
   pub point-put : (n : Now) (w : Where) (kind owner volume line : ℕ) (rec : List ℤ) → rec ≡ empty_record → n.owner ≡ owner → w.volume ≡ volume → w.line ≡ line
       → point_put n kind (point_table_of b) w j v rec ≡ point_record kind owner volume (record { line = line; values = nums_of v })
-  point-put n w kind owner volume line rec none o a i =
-      line-put n w kind owner volume line (rule_at (table_of (point_table_of b)) j) v rec none o a i
+  point-put n w kind owner volume line rec None o a i =
+      line-put n w kind owner volume line (rule_at (table_of (point_table_of b)) j) v rec None o a i
       ∙ ap (λ (y : List Rule). sets (put_line (rule_at y j) 0 v empty_record) 0 (pos kind ∷ pos owner ∷ pos volume ∷ pos line ∷ [])) (point-rows b)
       ∙ point-made kind owner volume line

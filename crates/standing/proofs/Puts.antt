@@ -1,8 +1,8 @@
 -- A line's value put into a record that its block's rows filled: the same as the rows with that slot set.
+use Rattle.std.specs.Prelude.{Option, Some, None}
 use Prim.Native.Nat.{ℕ, zero, suc, ◌+◌, ◌<◌, ◌≤◌}
 use mathlib.Core.Bool.{Bool, true, false, ◌&&◌, ◌||◌}
 use mathlib.Core.List.{List, [], ◌∷◌}
-use mathlib.Core.Option.{Option, none, some}
 use mathlib.Core.Path.{◌≡◌, refl, sym, ◌∙◌, ap}
 use native.Mathlib.Omega.{arith}
 use lib.Dec.{eqb, leb}
@@ -124,7 +124,7 @@ numbers-first (suc p) d (z ∷ zs) l e =
     ∙ ap (λ (u : List ℤ). sets l (suc p) u) (sym (ap (λ (n : ℕ). padded n (z ∷ zs)) (sym h) ∙ padded-full (z ∷ zs)))
 
 -- a slot that was empty
-pub first-put : (r : Rule) (v : Value) (l : List ℤ) → fills r.holds (numbers v) ≡ true → clear_row r ≡ true → put_value r v (put_slot r none l) ≡ put_slot r (some v) l
+pub first-put : (r : Rule) (v : Value) (l : List ℤ) → fills r.holds (numbers v) ≡ true → clear_row r ≡ true → put_value r v (put_slot r None l) ≡ put_slot r (Some v) l
 first-put r v l f c =
     let p = r.place in
     let q = r.state in
@@ -196,8 +196,8 @@ pub all-at : (p : Rule → Bool) (t : List Rule) (j : ℕ) → j < length t → 
 all-at p t j h e = all_of p t _ j h e
 
 -- the value of a row whose slot was empty
-pub slots_set : (t : List Rule) (s : Slots) (j : ℕ) (v : Value) (b : List ℤ) → length s ≡ length t → j < length t → get_or s j none ≡ none
-    → fills (rule_at t j).holds (numbers v) ≡ true → clear_table t ≡ true → put_slots t (set s j (some v)) b ≡ put_value (rule_at t j) v (put_slots t s b)
+pub slots_set : (t : List Rule) (s : Slots) (j : ℕ) (v : Value) (b : List ℤ) → length s ≡ length t → j < length t → get_or s j None ≡ None
+    → fills (rule_at t j).holds (numbers v) ≡ true → clear_table t ≡ true → put_slots t (set s j (Some v)) b ≡ put_value (rule_at t j) v (put_slots t s b)
 slots_set [] s j v b n h e f c = absurd (omega arith)
 slots_set (r ∷ t) [] j v b n h e f c = absurd (omega arith)
 slots_set (r ∷ t) (o ∷ s) zero v b n h e f c =
@@ -217,13 +217,13 @@ parts-other (t ∷ ts) h q p x b l =
     ∙ ap (put_slots t (part_of h q)) (parts-other ts h (suc q) p x b (omega arith))
 
 parts-set : (ts : List (List Rule)) (h : Held) (q i j : ℕ) (v : Value) (b : List ℤ) → Shaped q ts h → i < length ts → j < length (get_or ts i [])
-    → get_or (part_of h (q + i)) j none ≡ none → fills (rule_at (get_or ts i []) j).holds (numbers v) ≡ true → clear_parts ts ≡ true
+    → get_or (part_of h (q + i)) j None ≡ None → fills (rule_at (get_or ts i []) j).holds (numbers v) ≡ true → clear_parts ts ≡ true
     → put_parts q ts (enter h (q + i) j v) b ≡ put_value (rule_at (get_or ts i []) j) v (put_parts q ts h b)
 parts-set [] h q i j v b s l m e f c = absurd (omega arith)
 parts-set (t ∷ ts) h q zero j v b s l m e f c =
     let z : q + 0 ≡ q = omega arith in
     let o = part_of h q in
-    let x = set o j (some v) in
+    let x = set o j (Some v) in
     ap (λ (p : ℕ). put_parts q (t ∷ ts) (enter h p j v) b) z
     ∙ ap (λ (u : Slots). put_slots t u (put_parts (suc q) ts (set h q x) b)) (get_or-set_same h q x [] s.0)
     ∙ ap (put_slots t x) (parts-other ts h (suc q) q x b (omega arith))
@@ -231,7 +231,7 @@ parts-set (t ∷ ts) h q zero j v b s l m e f c =
 parts-set (t ∷ ts) h q (suc i) j v b s l m e f c =
     let z : q + suc i ≡ suc q + i = omega arith in
     let p = suc q + i in
-    let x = set (part_of h p) j (some v) in
+    let x = set (part_of h p) j (Some v) in
     let d = and_right (clear_table t) _ c in
     let r = rule_at (get_or ts i []) j in
     let k = all-at (λ u. all (λ w. clear_rows w u) t) (get_or ts i []) j m
@@ -243,7 +243,7 @@ parts-set (t ∷ ts) h q (suc i) j v b s l m e f c =
     ∙ slots_comm t r (part_of h q) v (put_parts (suc q) ts h b) k f
 
 pub held-set : (ts : List (List Rule)) (h : Held) (p j : ℕ) (v : Value) (b : List ℤ) → Shaped 0 ts h → p < length ts → j < length (get_or ts p [])
-    → get_or (part_of h p) j none ≡ none → fills (rule_at (get_or ts p []) j).holds (numbers v) ≡ true → clear_parts ts ≡ true
+    → get_or (part_of h p) j None ≡ None → fills (rule_at (get_or ts p []) j).holds (numbers v) ≡ true → clear_parts ts ≡ true
     → put_held ts (enter h p j v) b ≡ put_value (rule_at (get_or ts p []) j) v (put_held ts h b)
 held-set ts h p j v b s l m e f c =
     let z : 0 + p ≡ p = omega arith in

@@ -1,8 +1,8 @@
 -- Rows of values and rows that open a block: which of them a line enters, and which it opens.
+use Rattle.std.specs.Prelude.{Option, Some, None}
 use Prim.Native.Nat.{ℕ}
 use mathlib.Core.Bool.{Bool, true, false, cond}
 use mathlib.Core.List.{List, [], ◌∷◌}
-use mathlib.Core.Option.{Option, none, some}
 use mathlib.Core.Path.{◌≡◌, refl, sym, ◌∙◌, ap}
 use Rattle.rules.specs.declared.Digits.{Digits}
 use Rattle.rules.specs.RefusalNumbers.{got}
@@ -84,9 +84,9 @@ begin-shape k j i n r formless v e = never e
 
 -- `key:{` has nothing behind its brace
 stem-shape : (at : ℕ) (c : List ℕ) (o : Option (List ℕ)) → is_opener (by_stem at c o) ≡ false
-stem-shape at c none = refl
-stem-shape at c (some []) = refl
-stem-shape at c (some (b ∷ t)) = refl
+stem-shape at c None = refl
+stem-shape at c (Some []) = refl
+stem-shape at c (Some (b ∷ t)) = refl
 
 free-kind : (h : Kind) → is_opens h ≡ true → is_free h ≡ false
 free-kind (values p ps a) e = refl

@@ -1,8 +1,8 @@
 -- A record that one line fills: its numbers put over zeros, and its head before them, are the record that the rules give it.
+use Rattle.std.specs.Prelude.{Some, None}
 use Prim.Native.Nat.{ℕ, suc, ◌≤◌}
 use mathlib.Core.Bool.{true}
 use mathlib.Core.List.{List, [], ◌∷◌}
-use mathlib.Core.Option.{none, some}
 use mathlib.Core.Path.{◌≡◌, refl, sym, ◌∙◌, ap}
 use native.Mathlib.Omega.{arith}
 use lib.IntN.{ℤ, pos}
@@ -22,8 +22,8 @@ head_first p zs hs h k = runs-low hs zs empty_record 0 p (omega (arith, h, k))
 
 -- a row without a state, of a record that nothing else fills
 pub row_record : (r : Rule) (p : ℕ) (v : Value) (kind owner volume line : ℕ) → r.place ≡ suc p → 4 ≤ suc p → r.state ≡ 0 → clear_row r ≡ true
-    → put_slot r none (start kind owner volume line) ≡ start kind owner volume line → fills r.holds (numbers v) ≡ true
-    → sets (put_line r 0 v empty_record) 0 (pos kind ∷ pos owner ∷ pos volume ∷ pos line ∷ []) ≡ put_slot r (some v) (start kind owner volume line)
+    → put_slot r None (start kind owner volume line) ≡ start kind owner volume line → fills r.holds (numbers v) ≡ true
+    → sets (put_line r 0 v empty_record) 0 (pos kind ∷ pos owner ∷ pos volume ∷ pos line ∷ []) ≡ put_slot r (Some v) (start kind owner volume line)
 row_record r p v kind owner volume line e h f c b g =
     let hs : List ℤ = pos kind ∷ pos owner ∷ pos volume ∷ pos line ∷ [] in
     let q : put_line r 0 v empty_record ≡ sets empty_record (suc p) (numbers v) =

@@ -1,7 +1,7 @@
 -- The scratch with another record in one of its three parts.
+use Rattle.std.specs.Prelude.{Option, Some, None}
 use Prim.Native.Nat.{ℕ, zero, suc}
 use mathlib.Core.List.{List, [], ◌∷◌, ◌++◌, append-nil}
-use mathlib.Core.Option.{Option, none, some}
 use mathlib.Core.Path.{◌≡◌, refl, sym, ◌∙◌, ap, subst}
 use native.Mathlib.Omega.{arith}
 use lib.IntN.{ℤ, pos}
@@ -25,8 +25,8 @@ use Rattle.standing.proofs.ForeParts.{part-fore, fore-part}
 -- ── it is three records long ──
 -- an open wire's two are, whatever is known of it
 pub former-long : (o : Option Edge) (t : List ℤ) → length t ≡ 64 → length (former_numbers o t) ≡ 64
-former-long none t e = e
-former-long (some e) t h =
+former-long None t e = e
+former-long (Some e) t h =
     let x : ℤ = value_at e.values 3 in
     let y : ℤ = value_at e.values 4 in
     length-set (set (set t 4 x) 36 y) 62 (pos (suc e.row)) ∙ length-set (set t 4 x) 36 y ∙ length-set t 4 x ∙ h

@@ -1,8 +1,8 @@
 -- What a serial's line holds, of a placed symbol and of a wire: an own number, its partners, and bytes enough for them.
+use Rattle.std.specs.Prelude.{Some}
 use Prim.Native.Nat.{ℕ, suc, ◌+◌, ◌≤◌, ◌<◌}
 use mathlib.Core.Bool.{Bool, true, false, cond}
 use mathlib.Core.List.{List, [], ◌∷◌}
-use mathlib.Core.Option.{some}
 use mathlib.Core.Path.{◌≡◌, refl, sym, ◌∙◌, ap, subst}
 use native.Mathlib.Omega.{arith}
 use borrow.Author.Tests.{leb-true}
@@ -79,12 +79,12 @@ split-size c (b ∷ s) = go (eqb b c) (split c s) (split-some c s) (split-size c
     go false (p ∷ ps) h e = omega (arith, e)
 
 -- ── numbers and their digits ──
-one-digit : (w : ℕ) (p : List ℕ) (n : ℕ) → read_count w p ≡ some n → 1 ≤ length p
+one-digit : (w : ℕ) (p : List ℕ) (n : ℕ) → read_count w p ≡ Some n → 1 ≤ length p
 one-digit w [] n e = clash (cond-some (digit_run 1 w []) (value []) n e).0 refl
 one-digit w (b ∷ p) n e = omega arith
 
 -- a number whose piece leaves so many bytes of the content to others
-module _ (spool : List ℕ) (extra own : ℕ) (partners : List ℕ) (place : ℕ) (c p : List ℕ) (count : read_count 10 p ≡ some own) (others : length p + extra ≤ length c) where
+module _ (spool : List ℕ) (extra own : ℕ) (partners : List ℕ) (place : ℕ) (c p : List ℕ) (count : read_count 10 p ≡ Some own) (others : length p + extra ≤ length c) where
   digits-read : c ≡ bytes_at spool (span place (length c)) → place < 65536 → length c < 2048 → partners_in c ≡ partners → SerialRead spool extra own partners place c
   digits-read here low short given = record {
     here = here;
@@ -130,7 +130,7 @@ module _ (spool : List ℕ) (place : ℕ) (c : List ℕ) (here : c ≡ bytes_at 
       go [] s f = absurd (omega (arith, pieces-size [] s))
       go (p ∷ ps) s f =
           let u = cons-got (or_bad 10 (read_count 10 p)) (read_serials ps) whole.0 f in
-          let count : read_count 10 p ≡ some u.0 = or-got 10 (read_count 10 p) u.0 u.2 in
+          let count : read_count 10 p ≡ Some u.0 = or-got 10 (read_count 10 p) u.0 u.2 in
           record {
             own = u.0;
             partners = u.1;
@@ -157,5 +157,5 @@ module _ (spool : List ℕ) (place : ℕ) (c : List ℕ) (here : c ≡ bytes_at 
               let u = cons-got (natural (or_bad 10 (read_count 10 p))) (map_g flat (cons_g (read_partner a) (cons_g (read_partner b) (got [])))) ns f in
               let own = map-got (λ n. num (pos n)) (or_bad 10 (read_count 10 p)) u.0 u.2 in
               let is : own.0 ≡ amount_at (nums ns) 0 = ap (λ (y : Num). amount_at (nums (y ∷ u.1)) 0) own.2 ∙ ap (λ (y : List Num). amount_at (nums y) 0) u.4 in
-              let count : read_count 10 p ≡ some (amount_at (nums ns) 0) = or-got 10 (read_count 10 p) own.0 own.1 ∙ ap some is in
+              let count : read_count 10 p ≡ Some (amount_at (nums ns) 0) = or-got 10 (read_count 10 p) own.0 own.1 ∙ ap Some is in
               digits-read spool 2 (amount_at (nums ns) 0) (wire_partners (nums ns)) place c p count (omega (arith, pieces-size (p ∷ a ∷ b ∷ []) s)) here low (wire-short c ns read) (wire-partners c ns read)

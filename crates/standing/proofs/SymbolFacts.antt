@@ -1,8 +1,8 @@
 -- What is computed of a symbol's table: its rows, its name in its record, and what a symbol that closes has.
+use Rattle.std.specs.Prelude.{Option, Some, None}
 use Prim.Native.Nat.{ℕ, zero, suc, ◌<◌}
 use mathlib.Core.Bool.{Bool, true, false, cond, ◌&&◌, ◌||◌, not}
 use mathlib.Core.List.{List, [], ◌∷◌, ◌++◌, map, append-nil}
-use mathlib.Core.Option.{Option, none, some}
 use mathlib.Core.Path.{◌≡◌, refl, sym, ◌∙◌, ap}
 use native.Mathlib.Omega.{arith}
 use lib.Dec.{ltb}
@@ -52,7 +52,7 @@ symbol-housed = refl
 
 -- one more line of a symbol's record
 pub symbol-entry : (o : Slots) (j : ℕ) (v : Value) (b : List ℤ) → length o ≡ 4 → Taken symbol_table (rows_there o) j v
-    → put_line (rule_at symbol_table j) 0 v (put_slots symbol_table o b) ≡ put_slots symbol_table (set o j (some v)) b
+    → put_line (rule_at symbol_table j) 0 v (put_slots symbol_table o b) ≡ put_slots symbol_table (set o j (Some v)) b
 symbol-entry o j v b e k = own_line symbol_table o j v b (e ∙ sym symbol-length) k.row (mark-free o j k.free) k.fill symbol-clear symbol-housed
 
 pub name-row : ((rule_at symbol_table 0).holds ≡ word 32 letters_and_digits) × ((rule_at symbol_table 0).may ≡ false) × (length (rule_at symbol_table 0).key ≡ 4)
@@ -101,12 +101,12 @@ same-order m y b e =
     by_order y.hide_first a (point_records 43 m 1 y.hidden) h ∙ sym (by_order b a (point_records 43 m 1 y.hidden) h)
 
 -- a symbol's name is what its first row holds
-pub name-slot : (y : Symbol) → symbol_name_of y ≡ chars_of (slot_value (get_or y.own 0 none))
+pub name-slot : (y : Symbol) → symbol_name_of y ≡ chars_of (slot_value (get_or y.own 0 None))
 unfolding symbol_table
 name-slot y = refl
 
 -- ── its name in its record ──
-first-is : (o : Slots) → first_slot o ≡ get_or o 0 none
+first-is : (o : Slots) → first_slot o ≡ get_or o 0 None
 first-is [] = refl
 first-is (a ∷ o) = refl
 
@@ -119,14 +119,14 @@ module _ (t : List ℤ) (a b : ℤ) (h : length t ≡ 32) where
   at-six = get_or-set_same (set t 5 a) 6 b (pos 0) (omega (arith, h, length-set t 5 a))
 
 -- its place and its length
-pub record-name : (o : Slots) (b : List ℤ) (at : ℕ) (c : List ℕ) → length b ≡ 32 → get_or o 0 none ≡ some (chars at c)
+pub record-name : (o : Slots) (b : List ℤ) (at : ℕ) (c : List ℕ) → length b ≡ 32 → get_or o 0 None ≡ Some (chars at c)
     → (get_or (put_slots symbol_table o b) 5 (pos 0) ≡ pos at) × (get_or (put_slots symbol_table o b) 6 (pos 0) ≡ pos (length c))
 unfolding symbol_table
 record-name o b at c h e =
     let t : List ℤ = put_slots (drop 1 symbol_table) (other_slots o) b in
     let n : List ℤ = numbers_of (first_slot o) in
     let k : length t ≡ 32 = length-slots (drop 1 symbol_table) (other_slots o) b ∙ h in
-    let q : first_slot o ≡ some (chars at c) = first-is o ∙ e in
+    let q : first_slot o ≡ Some (chars at c) = first-is o ∙ e in
     (at_five t (first_or0 n) (first_or0 (others n)) k ∙ ap (λ (v : Option Value). first_or0 (numbers_of v)) q, at-six t (first_or0 n) (first_or0 (others n)) k ∙ ap (λ (v : Option Value). first_or0 (others (numbers_of v))) q)
 
 pub name_of_lem : (rec : List ℤ) (at len : ℕ) → (get_or rec 5 (pos 0) ≡ pos at) × (get_or rec 6 (pos 0) ≡ pos len) → name_of rec ≡ span at len
@@ -138,7 +138,7 @@ named-below rec at len h a b =
 
 -- a symbol that closes has a name, `element` and `hide`
 pub must_hold : (g : Digits) (o : Slots) → length o ≡ 4 → complete g symbol_table (rows_there o) ≡ true
-    → (is_some (get_or o 0 none) ≡ true) × (is_some (get_or o 1 none) ≡ true) × (is_some (get_or o 2 none) ≡ true)
+    → (is_some (get_or o 0 None) ≡ true) × (is_some (get_or o 1 None) ≡ true) × (is_some (get_or o 2 None) ≡ true)
 unfolding symbol_table
 must_hold g [] h e = absurd (omega (arith, h))
 must_hold g (a ∷ []) h e = absurd (omega (arith, h))
@@ -148,9 +148,9 @@ must_hold g (a ∷ b ∷ i ∷ o) h e =
     let last = and_right (not (reaches g (digits 0 0)) || is_some b) _ more in
     (must-row g a (and_left _ _ e), must-row g b (and_left _ _ more), must-row g i (and_left _ _ last))
 
-pub text-is : (o : Option Value) → is_some o ≡ true → is_text o ≡ true → (at : ℕ) × (c : List ℕ) × (o ≡ some (chars at c))
-text-is none h t = clash h refl
-text-is (some empty) h t = clash t refl
-text-is (some (nums v)) h t = clash t refl
-text-is (some (chars at c)) h t = (at, c, refl)
-text-is (some (linked n ps)) h t = clash t refl
+pub text-is : (o : Option Value) → is_some o ≡ true → is_text o ≡ true → (at : ℕ) × (c : List ℕ) × (o ≡ Some (chars at c))
+text-is None h t = clash h refl
+text-is (Some empty) h t = clash t refl
+text-is (Some (nums v)) h t = clash t refl
+text-is (Some (chars at c)) h t = (at, c, refl)
+text-is (Some (linked n ps)) h t = clash t refl

@@ -1,8 +1,8 @@
 -- A line in a symbol of SYMBOL_DEFINE: from the code's answer to the step that the definitions make.
+use Rattle.std.specs.Prelude.{Option, Some, None}
 use Prim.Native.Nat.{ℕ, suc, ◌+◌, ◌*◌, ◌≤◌, ◌<◌}
 use mathlib.Core.Bool.{Bool, true, false, cond, ◌&&◌, ◌||◌, not}
 use mathlib.Core.List.{List, [], ◌∷◌, ◌++◌, map}
-use mathlib.Core.Option.{Option, none, some}
 use mathlib.Core.Path.{◌≡◌, refl, sym, ◌∙◌, ap, subst}
 use native.Mathlib.Omega.{arith}
 use lib.Dec.{eqb}
@@ -135,11 +135,11 @@ module _ (c : Class) (spool : List ℕ) (short : length spool ≤ 61440) (k : �
     closes : (l.form ≡ close) × (complete (digits_of (define_range s)) symbol_table full ≡ true)
     closes = shut-close (known_of s) symbol_table (digits_of (define_range s)) full l.form a
 
-    holds : (is_some (get_or y.own 0 none) ≡ true) × (is_some (get_or y.own 1 none) ≡ true) × (is_some (get_or y.own 2 none) ≡ true)
+    holds : (is_some (get_or y.own 0 None) ≡ true) × (is_some (get_or y.own 1 None) ≡ true) × (is_some (get_or y.own 2 None) ≡ true)
     holds = must_hold (digits_of (define_range s)) y.own iny.slots closes.1
 
-    text : (i : ℕ) × (b : List ℕ) × (get_or y.own 0 none ≡ some (chars i b))
-    text = text-is (get_or y.own 0 none) holds.0 iny.is-text
+    text : (i : ℕ) × (b : List ℕ) × (get_or y.own 0 None ≡ Some (chars i b))
+    text = text-is (get_or y.own 0 None) holds.0 iny.is-text
 
     abbrev place : ℕ
     place = text.0
@@ -190,7 +190,7 @@ module _ (c : Class) (spool : List ℕ) (short : length spool ≤ 61440) (k : �
     -- ── a row more ──
     module _ (j : ℕ) (v : Value) (taken : Taken symbol_table full j v) (qm : m₁ ≡ set d.marks j true) (q : rec₁ ≡ put_line (rule_at (table_of 9) j) 0 v (symbol_record d)) where
       abbrev own' : Slots
-      own' = set y.own j (some v)
+      own' = set y.own j (Some v)
 
       abbrev y' : Symbol
       y' = symbol_own own' y
@@ -198,7 +198,7 @@ module _ (c : Class) (spool : List ℕ) (short : length spool ≤ 61440) (k : �
       row : j < 4
       row = omega (arith, taken.row, symbol-length)
 
-      was_free : get_or y.own j none ≡ none
+      was_free : get_or y.own j None ≡ None
       was_free = mark-free y.own j taken.free
 
       line-put : rec₁ ≡ put_line (rule_at symbol_table j) 0 v (symbol_record d)
@@ -217,23 +217,23 @@ module _ (c : Class) (spool : List ℕ) (short : length spool ≤ 61440) (k : �
       long-marks = ap length qm ∙ length-set d.marks j true ∙ z.lengths.marks
 
       slots' : length own' ≡ 4
-      slots' = length-set y.own j (some v) ∙ iny.slots
+      slots' = length-set y.own j (Some v) ∙ iny.slots
 
       -- the other rows stay
-      stays : (i : ℕ) → (i ≡ j → ⊥) → get_or own' i none ≡ get_or y.own i none
-      stays i other = get_or-set_other y.own j i (some v) none other
+      stays : (i : ℕ) → (i ≡ j → ⊥) → get_or own' i None ≡ get_or y.own i None
+      stays i other = get_or-set_other y.own j i (Some v) None other
 
       -- what the row takes, before and after
-      unread : (b i : ℕ) → j ≡ i → row_bytes b (get_or y.own i none) ≡ 0
-      unread b i p = ap (row_bytes b) (ap (λ (m : ℕ). get_or y.own m none) (sym p) ∙ was_free)
+      unread : (b i : ℕ) → j ≡ i → row_bytes b (get_or y.own i None) ≡ 0
+      unread b i p = ap (row_bytes b) (ap (λ (m : ℕ). get_or y.own m None) (sym p) ∙ was_free)
 
-      read : (b i : ℕ) → j ≡ i → row_bytes b (get_or own' i none) ≡ b
+      read : (b i : ℕ) → j ≡ i → row_bytes b (get_or own' i None) ≡ b
       read b i p =
-          ap (row_bytes b) (ap (λ (m : ℕ). get_or (set y.own m (some v)) i none) p ∙ get_or-set_same y.own i (some v) none (omega (arith, row, p, iny.slots)))
+          ap (row_bytes b) (ap (λ (m : ℕ). get_or (set y.own m (Some v)) i None) p ∙ get_or-set_same y.own i (Some v) None (omega (arith, row, p, iny.slots)))
 
       -- another row than the name's
       module _ (other : 0 ≡ j → ⊥) where
-        same-slot : get_or own' 0 none ≡ get_or y.own 0 none
+        same-slot : get_or own' 0 None ≡ get_or y.own 0 None
         same-slot = stays 0 other
 
         same_name : symbol_name_of y' ≡ symbol_name_of y
@@ -247,7 +247,7 @@ module _ (c : Class) (spool : List ℕ) (short : length spool ≤ 61440) (k : �
         abbrev st' : State
         st' = symbol s y'
 
-        entered : new_name s y' ≡ true → CharsHere spool (get_or own' 0 none) → is_text (get_or own' 0 none) ≡ true → 48 * n + symbol_bytes y' ≤ to → Out (S.Go d.now)
+        entered : new_name s y' ≡ true → CharsHere spool (get_or own' 0 None) → is_text (get_or own' 0 None) ≡ true → 48 * n + symbol_bytes y' ≤ to → Out (S.Go d.now)
         entered fresh name text paid =
             let on : Enters c st st' t₁ = subst (Enters c st st') back (symbol-row c s y d.scratch z.scratch j v iny.slots taken) in
             goes-still c spool k FileHere own l to st desk₁ d.now st' (ap (acted _ _ _ _) a ∙ ap (λ (b : Bool). unless b 15 (got st')) fresh) refl refl refl on.same
@@ -293,14 +293,14 @@ module _ (c : Class) (spool : List ℕ) (short : length spool ≤ 61440) (k : �
           long =
               omega (arith, x.bytes, line-size (known_of s) symbol_table (digits_of (define_range s)) full l.form j (entry j v) from, ap (λ (r : Rule). length r.key) is_row, name-row.2, held.long)
 
-          slot : get_or own' 0 none ≡ some (chars held.at held.bytes)
+          slot : get_or own' 0 None ≡ Some (chars held.at held.bytes)
           slot =
-              ap (λ (i : ℕ). get_or (set y.own i (some v)) 0 none) first ∙ get_or-set_same y.own 0 (some v) none (omega (arith, iny.slots)) ∙ ap some held.is
+              ap (λ (i : ℕ). get_or (set y.own i (Some v)) 0 None) first ∙ get_or-set_same y.own 0 (Some v) None (omega (arith, iny.slots)) ∙ ap Some held.is
 
           short-name : length held.bytes < 65536
           short-name = omega (arith, short, ap length held.here, length-take (length held.bytes) (drop held.at spool), length-drop held.at spool)
 
-          here : CharsHere spool (get_or own' 0 none)
+          here : CharsHere spool (get_or own' 0 None)
           here = subst (CharsHere spool) (sym slot) (held.here, omega (arith, held.low, short), short-name)
 
           paid : 48 * n + symbol_bytes y' ≤ to
@@ -343,7 +343,7 @@ module _ (c : Class) (spool : List ℕ) (short : length spool ≤ 61440) (k : �
 
         -- the symbol around it
         around : (n' : Now) (b : Bool) → n'.owner ≡ d.now.owner → (0 ≡ j → ⊥)
-            → (is_none (get_or own' 1 none) ≡ true → (y.figures ≡ []) × (b ≡ false → y.hidden ≡ [])) → (is_none (get_or own' 2 none) ≡ true → y.hidden ≡ [])
+            → (is_none (get_or own' 1 None) ≡ true → (y.figures ≡ []) × (b ≡ false → y.hidden ≡ [])) → (is_none (get_or own' 2 None) ≡ true → y.hidden ≡ [])
             → InSymbol spool k n' m₁ d.inner s (symbol_order b y')
         around n' b g other f h = record {
           phase = iny.phase;
@@ -358,11 +358,11 @@ module _ (c : Class) (spool : List ℕ) (short : length spool ≤ 61440) (k : �
         }
 
         -- a row that was just read is there
-        there : (m : ℕ) → j ≡ m → is_none (get_or own' m none) ≡ false
-        there m p = ap (λ (r : ℕ). is_none (get_or (set y.own r (some v)) m none)) p ∙ ap is_none (get_or-set_same y.own m (some v) none (omega (arith, row, p, iny.slots)))
+        there : (m : ℕ) → j ≡ m → is_none (get_or own' m None) ≡ false
+        there m p = ap (λ (r : ℕ). is_none (get_or (set y.own r (Some v)) m None)) p ∙ ap is_none (get_or-set_same y.own m (Some v) None (omega (arith, row, p, iny.slots)))
 
-        was : (m : ℕ) → j ≡ m → is_none (get_or y.own m none) ≡ true
-        was m p = ap (λ (r : ℕ). is_none (get_or y.own r none)) (sym p) ∙ ap is_none was_free
+        was : (m : ℕ) → j ≡ m → is_none (get_or y.own m None) ≡ true
+        was m p = ap (λ (r : ℕ). is_none (get_or y.own r None)) (sym p) ∙ ap is_none was_free
 
         on-element : i ≡ 1 → j ≡ 1 → Out (S.Go (symbol_part d.now i))
         on-element p r =
@@ -381,7 +381,7 @@ module _ (c : Class) (spool : List ℕ) (short : length spool ≤ 61440) (k : �
 
         on-hide : i ≡ 2 → j ≡ 2 → Out (S.Go (symbol_part d.now i))
         on-hide p r =
-            let b : Bool = is_none (get_or own' 1 none) in
+            let b : Bool = is_none (get_or own' 1 None) in
             let y'' : Symbol = symbol_order b y' in
             let st'' : State = hide s y'' [] in
             let other : 0 ≡ j → ⊥ = λ o. absurd (omega (arith, o, r)) in

@@ -1,8 +1,8 @@
 -- A line in a figure's text: from the code's answer to the step that the definitions make.
+use Rattle.std.specs.Prelude.{Some}
 use Prim.Native.Nat.{ℕ, ◌+◌, ◌-◌, ◌≤◌}
 use mathlib.Core.Bool.{Bool, true, false}
 use mathlib.Core.List.{List, [], ◌∷◌, ◌++◌}
-use mathlib.Core.Option.{some}
 use mathlib.Core.Path.{◌≡◌, refl, sym, ◌∙◌, ap, subst}
 use native.Mathlib.Omega.{arith}
 use lib.IntN.{ℤ}
@@ -115,7 +115,7 @@ module _ (c : Class) (spool : List ℕ) (k : ℕ) (FileHere : Desk → Set → �
     -- one of its lines
     on-entry : (j : ℕ) (v : Value) → did ≡ entry j v → m₁ ≡ set d.inner j true → rec₁ ≡ put_line (rule_at code_rows j) 0 v (part_at 32 d.scratch) → Out (S.Go d.now)
     on-entry j v a m q =
-        let st' : State = texts s h fs n (set o j (some v)) in
+        let st' : State = texts s h fs n (set o j (Some v)) in
         let got-it : Taken rows (rows_there o) j v = entry-taken (known_of s) rows (digits 0 0) (rows_there o) l.form j v a in
         let row : Enters c st st' (line_in 32 rows j v d.scratch) = text-row c s h fs n o d.scratch z.scratch j v z.block.3 got-it in
         let put : line_in 32 rows j v d.scratch ≡ t₁ =
@@ -127,7 +127,7 @@ module _ (c : Class) (spool : List ℕ) (k : ℕ) (FileHere : Desk → Set → �
           z.block.0,
           home_stays spool k d.now d.now d.marks d.inner m₁ s h refl refl home,
           z.block.2,
-          length-set o j (some v) ∙ z.block.3,
+          length-set o j (Some v) ∙ z.block.3,
           m ∙ ap (λ (i : List Bool). set i j true) z.block.4 ∙ sym (marks-set o j v),
         ))
 

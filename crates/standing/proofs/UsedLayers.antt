@@ -1,8 +1,8 @@
 -- The layers in use, by their numbers: a layer that a line of ELEMENT names is declared, and it is in use from that line on.
+use Rattle.std.specs.Prelude.{Some}
 use Prim.Native.Nat.{ℕ, suc, ◌<◌}
 use mathlib.Core.Bool.{Bool, true, false, cond, ◌||◌}
 use mathlib.Core.List.{List, [], ◌∷◌, ◌++◌}
-use mathlib.Core.Option.{some}
 use mathlib.Core.Path.{◌≡◌, refl, sym, ◌∙◌, ap, subst}
 use native.Mathlib.Omega.{arith}
 use borrow.Author.Tests.{eqb-true, eqb-false}
@@ -45,11 +45,11 @@ element-holds {j} {r} w =
     ap (λ (x : Rule). x.holds) (sym (row_at w r) ∙ ap (λ (m : ℕ). get_or element_table m r) z)
 
 -- ── a layer's number ──
-index_below : (k : List ℕ) (us : List (List ℕ)) (m : ℕ) → index_of k us ≡ some m → m < length us
+index_below : (k : List ℕ) (us : List (List ℕ)) (m : ℕ) → index_of k us ≡ Some m → m < length us
 index_below k [] m e = none-some e
 index_below k (u ∷ us) m e = go (same k u) (λ n q. index_below k us n q) e
   where
-    go : (b : Bool) → ((n : ℕ) → index_of k us ≡ some n → n < length us) → cond b (some 0) (map_o suc (index_of k us)) ≡ some m → m < suc (length us)
+    go : (b : Bool) → ((n : ℕ) → index_of k us ≡ Some n → n < length us) → cond b (Some 0) (map_o suc (index_of k us)) ≡ Some m → m < suc (length us)
     go true f q = let z : 0 ≡ m = cc in omega (arith, z)
     go false f q =
         let (n, p, z) = map-some suc (index_of k us) m q in

@@ -1,8 +1,8 @@
 -- The numbers of an open wire's two records, cell by cell: what a line of a key leaves there.
+use Rattle.std.specs.Prelude.{Option, Some, None}
 use Prim.Native.Nat.{ℕ, zero, suc, ◌+◌, ◌*◌, ◌/◌}
 use mathlib.Core.Bool.{Bool, true, false, cond, ◌&&◌, ◌||◌}
 use mathlib.Core.List.{List, [], ◌∷◌, ◌++◌, map}
-use mathlib.Core.Option.{Option, none, some}
 use mathlib.Core.Path.{◌≡◌, refl, sym, ◌∙◌, ap}
 use native.Mathlib.Omega.{arith}
 use borrow.Author.Tests.{lt-leb}
@@ -111,27 +111,27 @@ unfolding table_of wire_table
 direc-put [] g₁ g₂ ts b o v h = first o v h
   where
     first : (o : Option Edge) (v : List Num) → GroupLine 2 v → shelved 0 (shelf 6 26 4 2) (front_read 2 (nums v) (scratch ts b o [] g₁ g₂)) ≡ scratch ts b o (v ∷ []) g₁ g₂
-    first none _ no-direc = refl
-    first none _ (a-direc p q r s) = refl
-    first (some e) _ no-direc = refl
-    first (some e) _ (a-direc p q r s) = refl
+    first None _ no-direc = refl
+    first None _ (a-direc p q r s) = refl
+    first (Some e) _ no-direc = refl
+    first (Some e) _ (a-direc p q r s) = refl
 direc-put (u ∷ []) g₁ g₂ ts b o v h = second o v h
   where
     second : (o : Option Edge) (v : List Num) → GroupLine 2 v → shelved 0 (shelf 6 26 4 2) (front_read 2 (nums v) (scratch ts b o (u ∷ []) g₁ g₂)) ≡ scratch ts b o (u ∷ v ∷ []) g₁ g₂
-    second none _ no-direc = refl
-    second none _ (a-direc p q r s) = refl
-    second (some e) _ no-direc = refl
-    second (some e) _ (a-direc p q r s) = refl
+    second None _ no-direc = refl
+    second None _ (a-direc p q r s) = refl
+    second (Some e) _ no-direc = refl
+    second (Some e) _ (a-direc p q r s) = refl
 direc-put (u ∷ y ∷ g) g₁ g₂ ts b o v h =
     more o v h
     ∙ ap (λ (m : ℕ). scratch_of o (suc (suc m)) (shown_lines 2 4 (u ∷ y ∷ g)) (length g₁) (shown_lines 1 3 g₁) (length g₂) (shown_lines 1 5 g₂) ts b) (one-longer g v)
   where
     more : (o : Option Edge) (v : List Num) → GroupLine 2 v → shelved 0 (shelf 6 26 4 2) (front_read 2 (nums v) (scratch ts b o (u ∷ y ∷ g) g₁ g₂))
         ≡ scratch_of o (suc (suc (suc (length g)))) (shown_lines 2 4 (u ∷ y ∷ g)) (length g₁) (shown_lines 1 3 g₁) (length g₂) (shown_lines 1 5 g₂) ts b
-    more none _ no-direc = ap (λ (c : Bool). shelved_if c (shelf 6 26 4 2) (suc (suc (length g))) (front_read 2 (nums []) (scratch ts b none (u ∷ y ∷ g) g₁ g₂))) (many-two (length g))
-    more none _ (a-direc p q r s) = ap (λ (c : Bool). shelved_if c (shelf 6 26 4 2) (suc (suc (length g))) (front_read 2 (nums (p ∷ q ∷ r ∷ s ∷ [])) (scratch ts b none (u ∷ y ∷ g) g₁ g₂))) (many-two (length g))
-    more (some e) _ no-direc = ap (λ (c : Bool). shelved_if c (shelf 6 26 4 2) (suc (suc (length g))) (front_read 2 (nums []) (scratch ts b (some e) (u ∷ y ∷ g) g₁ g₂))) (many-two (length g))
-    more (some e) _ (a-direc p q r s) = ap (λ (c : Bool). shelved_if c (shelf 6 26 4 2) (suc (suc (length g))) (front_read 2 (nums (p ∷ q ∷ r ∷ s ∷ [])) (scratch ts b (some e) (u ∷ y ∷ g) g₁ g₂))) (many-two (length g))
+    more None _ no-direc = ap (λ (c : Bool). shelved_if c (shelf 6 26 4 2) (suc (suc (length g))) (front_read 2 (nums []) (scratch ts b None (u ∷ y ∷ g) g₁ g₂))) (many-two (length g))
+    more None _ (a-direc p q r s) = ap (λ (c : Bool). shelved_if c (shelf 6 26 4 2) (suc (suc (length g))) (front_read 2 (nums (p ∷ q ∷ r ∷ s ∷ [])) (scratch ts b None (u ∷ y ∷ g) g₁ g₂))) (many-two (length g))
+    more (Some e) _ no-direc = ap (λ (c : Bool). shelved_if c (shelf 6 26 4 2) (suc (suc (length g))) (front_read 2 (nums []) (scratch ts b (Some e) (u ∷ y ∷ g) g₁ g₂))) (many-two (length g))
+    more (Some e) _ (a-direc p q r s) = ap (λ (c : Bool). shelved_if c (shelf 6 26 4 2) (suc (suc (length g))) (front_read 2 (nums (p ∷ q ∷ r ∷ s ∷ [])) (scratch ts b (Some e) (u ∷ y ∷ g) g₁ g₂))) (many-two (length g))
 
 pub piend-put : (g₀ g₁ g₂ : List (List Num)) (ts : List Slots) (b : List ℤ) (o : Option Edge) (v : List Num) → GroupLine 3 v
     → shelved 0 (shelf 15 27 3 1) (front_read 3 (nums v) (scratch ts b o g₀ g₁ g₂)) ≡ scratch ts b o g₀ (g₁ ++ v ∷ []) g₂
@@ -139,20 +139,20 @@ unfolding table_of wire_table
 piend-put g₀ [] g₂ ts b o v h = first o v h
   where
     first : (o : Option Edge) (v : List Num) → GroupLine 3 v → shelved 0 (shelf 15 27 3 1) (front_read 3 (nums v) (scratch ts b o g₀ [] g₂)) ≡ scratch ts b o g₀ (v ∷ []) g₂
-    first none _ no-piend = refl
-    first none _ (a-piend p q r) = refl
-    first (some e) _ no-piend = refl
-    first (some e) _ (a-piend p q r) = refl
+    first None _ no-piend = refl
+    first None _ (a-piend p q r) = refl
+    first (Some e) _ no-piend = refl
+    first (Some e) _ (a-piend p q r) = refl
 piend-put g₀ (u ∷ g) g₂ ts b o v h =
     more o v h
     ∙ ap (λ (m : ℕ). scratch_of o (length g₀) (shown_lines 2 4 g₀) (suc m) (shown_lines 1 3 (u ∷ g)) (length g₂) (shown_lines 1 5 g₂) ts b) (one-longer g v)
   where
     more : (o : Option Edge) (v : List Num) → GroupLine 3 v → shelved 0 (shelf 15 27 3 1) (front_read 3 (nums v) (scratch ts b o g₀ (u ∷ g) g₂))
         ≡ scratch_of o (length g₀) (shown_lines 2 4 g₀) (suc (suc (length g))) (shown_lines 1 3 (u ∷ g)) (length g₂) (shown_lines 1 5 g₂) ts b
-    more none _ no-piend = ap (λ (c : Bool). shelved_if c (shelf 15 27 3 1) (suc (length g)) (front_read 3 (nums []) (scratch ts b none g₀ (u ∷ g) g₂))) (many-one (length g))
-    more none _ (a-piend p q r) = ap (λ (c : Bool). shelved_if c (shelf 15 27 3 1) (suc (length g)) (front_read 3 (nums (p ∷ q ∷ r ∷ [])) (scratch ts b none g₀ (u ∷ g) g₂))) (many-one (length g))
-    more (some e) _ no-piend = ap (λ (c : Bool). shelved_if c (shelf 15 27 3 1) (suc (length g)) (front_read 3 (nums []) (scratch ts b (some e) g₀ (u ∷ g) g₂))) (many-one (length g))
-    more (some e) _ (a-piend p q r) = ap (λ (c : Bool). shelved_if c (shelf 15 27 3 1) (suc (length g)) (front_read 3 (nums (p ∷ q ∷ r ∷ [])) (scratch ts b (some e) g₀ (u ∷ g) g₂))) (many-one (length g))
+    more None _ no-piend = ap (λ (c : Bool). shelved_if c (shelf 15 27 3 1) (suc (length g)) (front_read 3 (nums []) (scratch ts b None g₀ (u ∷ g) g₂))) (many-one (length g))
+    more None _ (a-piend p q r) = ap (λ (c : Bool). shelved_if c (shelf 15 27 3 1) (suc (length g)) (front_read 3 (nums (p ∷ q ∷ r ∷ [])) (scratch ts b None g₀ (u ∷ g) g₂))) (many-one (length g))
+    more (Some e) _ no-piend = ap (λ (c : Bool). shelved_if c (shelf 15 27 3 1) (suc (length g)) (front_read 3 (nums []) (scratch ts b (Some e) g₀ (u ∷ g) g₂))) (many-one (length g))
+    more (Some e) _ (a-piend p q r) = ap (λ (c : Bool). shelved_if c (shelf 15 27 3 1) (suc (length g)) (front_read 3 (nums (p ∷ q ∷ r ∷ [])) (scratch ts b (Some e) g₀ (u ∷ g) g₂))) (many-one (length g))
 
 pub num-put : (g₀ g₁ g₂ : List (List Num)) (ts : List Slots) (b : List ℤ) (o : Option Edge) (v : List Num) → GroupLine 4 v
     → shelved 0 (shelf 19 28 5 1) (front_read 4 (nums v) (scratch ts b o g₀ g₁ g₂)) ≡ scratch ts b o g₀ g₁ (g₂ ++ v ∷ [])
@@ -160,20 +160,20 @@ unfolding table_of wire_table
 num-put g₀ g₁ [] ts b o v h = first o v h
   where
     first : (o : Option Edge) (v : List Num) → GroupLine 4 v → shelved 0 (shelf 19 28 5 1) (front_read 4 (nums v) (scratch ts b o g₀ g₁ [])) ≡ scratch ts b o g₀ g₁ (v ∷ [])
-    first none _ no-num = refl
-    first none _ (a-num p q r s u) = refl
-    first (some e) _ no-num = refl
-    first (some e) _ (a-num p q r s u) = refl
+    first None _ no-num = refl
+    first None _ (a-num p q r s u) = refl
+    first (Some e) _ no-num = refl
+    first (Some e) _ (a-num p q r s u) = refl
 num-put g₀ g₁ (u ∷ g) ts b o v h =
     more o v h
     ∙ ap (λ (m : ℕ). scratch_of o (length g₀) (shown_lines 2 4 g₀) (length g₁) (shown_lines 1 3 g₁) (suc m) (shown_lines 1 5 (u ∷ g)) ts b) (one-longer g v)
   where
     more : (o : Option Edge) (v : List Num) → GroupLine 4 v → shelved 0 (shelf 19 28 5 1) (front_read 4 (nums v) (scratch ts b o g₀ g₁ (u ∷ g)))
         ≡ scratch_of o (length g₀) (shown_lines 2 4 g₀) (length g₁) (shown_lines 1 3 g₁) (suc (suc (length g))) (shown_lines 1 5 (u ∷ g)) ts b
-    more none _ no-num = ap (λ (c : Bool). shelved_if c (shelf 19 28 5 1) (suc (length g)) (front_read 4 (nums []) (scratch ts b none g₀ g₁ (u ∷ g)))) (many-one (length g))
-    more none _ (a-num p q r s t) = ap (λ (c : Bool). shelved_if c (shelf 19 28 5 1) (suc (length g)) (front_read 4 (nums (p ∷ q ∷ r ∷ s ∷ t ∷ [])) (scratch ts b none g₀ g₁ (u ∷ g)))) (many-one (length g))
-    more (some e) _ no-num = ap (λ (c : Bool). shelved_if c (shelf 19 28 5 1) (suc (length g)) (front_read 4 (nums []) (scratch ts b (some e) g₀ g₁ (u ∷ g)))) (many-one (length g))
-    more (some e) _ (a-num p q r s t) = ap (λ (c : Bool). shelved_if c (shelf 19 28 5 1) (suc (length g)) (front_read 4 (nums (p ∷ q ∷ r ∷ s ∷ t ∷ [])) (scratch ts b (some e) g₀ g₁ (u ∷ g)))) (many-one (length g))
+    more None _ no-num = ap (λ (c : Bool). shelved_if c (shelf 19 28 5 1) (suc (length g)) (front_read 4 (nums []) (scratch ts b None g₀ g₁ (u ∷ g)))) (many-one (length g))
+    more None _ (a-num p q r s t) = ap (λ (c : Bool). shelved_if c (shelf 19 28 5 1) (suc (length g)) (front_read 4 (nums (p ∷ q ∷ r ∷ s ∷ t ∷ [])) (scratch ts b None g₀ g₁ (u ∷ g)))) (many-one (length g))
+    more (Some e) _ no-num = ap (λ (c : Bool). shelved_if c (shelf 19 28 5 1) (suc (length g)) (front_read 4 (nums []) (scratch ts b (Some e) g₀ g₁ (u ∷ g)))) (many-one (length g))
+    more (Some e) _ (a-num p q r s t) = ap (λ (c : Bool). shelved_if c (shelf 19 28 5 1) (suc (length g)) (front_read 4 (nums (p ∷ q ∷ r ∷ s ∷ t ∷ [])) (scratch ts b (Some e) g₀ g₁ (u ∷ g)))) (many-one (length g))
 
 -- "all with equal earth and power"
 some-many : (n : ℕ) → equal_z (pos (suc n)) (pos 0) ≡ false
@@ -185,10 +185,10 @@ unfolding table_of wire_table
 num-agrees g₀ g₁ [] ts b o v h = first o v h
   where
     first : (o : Option Edge) (v : List Num) → GroupLine 4 v → group_agrees 4 (front_read 4 (nums v) (scratch ts b o g₀ g₁ [])) ≡ true
-    first none _ no-num = refl
-    first none _ (a-num p q r s u) = refl
-    first (some e) _ no-num = refl
-    first (some e) _ (a-num p q r s u) = refl
+    first None _ no-num = refl
+    first None _ (a-num p q r s u) = refl
+    first (Some e) _ no-num = refl
+    first (Some e) _ (a-num p q r s u) = refl
 num-agrees g₀ g₁ (u ∷ g) ts b o v h = like o u v h
   where
     -- t: the scratch; the first has been
@@ -196,18 +196,18 @@ num-agrees g₀ g₁ (u ∷ g) ts b o v h = like o u v h
     later x y e = ap (λ (z : Bool). z || y) e
 
     like : (o : Option Edge) (u v : List Num) → GroupLine 4 v → group_agrees 4 (front_read 4 (nums v) (scratch ts b o g₀ g₁ (u ∷ g))) ≡ like_first (u ∷ g) v
-    like none [] _ no-num = later _ _ (some-many (length g))
-    like none (m ∷ []) _ no-num = later _ _ (some-many (length g))
-    like none (m ∷ n ∷ u) _ no-num = later _ _ (some-many (length g))
-    like none [] _ (a-num p q r s t) = later _ _ (some-many (length g))
-    like none (m ∷ []) _ (a-num p q r s t) = later _ _ (some-many (length g))
-    like none (m ∷ n ∷ u) _ (a-num p q r s t) = later _ _ (some-many (length g))
-    like (some e) [] _ no-num = later _ _ (some-many (length g))
-    like (some e) (m ∷ []) _ no-num = later _ _ (some-many (length g))
-    like (some e) (m ∷ n ∷ u) _ no-num = later _ _ (some-many (length g))
-    like (some e) [] _ (a-num p q r s t) = later _ _ (some-many (length g))
-    like (some e) (m ∷ []) _ (a-num p q r s t) = later _ _ (some-many (length g))
-    like (some e) (m ∷ n ∷ u) _ (a-num p q r s t) = later _ _ (some-many (length g))
+    like None [] _ no-num = later _ _ (some-many (length g))
+    like None (m ∷ []) _ no-num = later _ _ (some-many (length g))
+    like None (m ∷ n ∷ u) _ no-num = later _ _ (some-many (length g))
+    like None [] _ (a-num p q r s t) = later _ _ (some-many (length g))
+    like None (m ∷ []) _ (a-num p q r s t) = later _ _ (some-many (length g))
+    like None (m ∷ n ∷ u) _ (a-num p q r s t) = later _ _ (some-many (length g))
+    like (Some e) [] _ no-num = later _ _ (some-many (length g))
+    like (Some e) (m ∷ []) _ no-num = later _ _ (some-many (length g))
+    like (Some e) (m ∷ n ∷ u) _ no-num = later _ _ (some-many (length g))
+    like (Some e) [] _ (a-num p q r s t) = later _ _ (some-many (length g))
+    like (Some e) (m ∷ []) _ (a-num p q r s t) = later _ _ (some-many (length g))
+    like (Some e) (m ∷ n ∷ u) _ (a-num p q r s t) = later _ _ (some-many (length g))
 
 -- ── the rows that stand once ──
 abbrev slot : ℕ → ℕ → ℕ → ℤ → List ℤ → List ℤ → List ℤ
@@ -218,7 +218,7 @@ once_cells k volume n st₆ ns₆ st₇ ns₇ st₈ ns₈ st₉ ns₉ = slot 25 
 
 -- the slots of length, circuit, power and serial; none of the others
 abbrev pub once_slots : Option Value → Option Value → Option Value → Option Value → Slots
-once_slots o₆ o₇ o₈ o₉ = none ∷ none ∷ none ∷ none ∷ none ∷ none ∷ o₆ ∷ o₇ ∷ o₈ ∷ o₉ ∷ []
+once_slots o₆ o₇ o₈ o₉ = None ∷ None ∷ None ∷ None ∷ None ∷ None ∷ o₆ ∷ o₇ ∷ o₈ ∷ o₉ ∷ []
 
 abbrev pub once_of : ℕ → ℕ → ℕ → Option Value → Option Value → Option Value → Option Value → List ℤ
 once_of k volume n o₆ o₇ o₈ o₉ = put_slots wire_table (once_slots o₆ o₇ o₈ o₉) (wire_start k volume n)
@@ -250,50 +250,50 @@ module _ (k volume n : ℕ) (g₀ g₁ g₂ : List (List Num)) (ts : List Slots)
 
   row_6 : (o : Option Edge) (st : ℤ) (ns : List ℤ) (st₇ : ℤ) (ns₇ : List ℤ) (st₈ : ℤ) (ns₈ : List ℤ) (st₉ : ℤ) (ns₉ : List ℤ) → Fill 1 ns
       → entered 25 29 st ns (once_scratch o (pos 0) [] st₇ ns₇ st₈ ns₈ st₉ ns₉) ≡ once_scratch o st ns st₇ ns₇ st₈ ns₈ st₉ ns₉
-  row_6 none st _ st₇ ns₇ st₈ ns₈ st₉ ns₉ (fill_none _) = refl
-  row_6 (some e) st _ st₇ ns₇ st₈ ns₈ st₉ ns₉ (fill_none _) = refl
-  row_6 none st _ st₇ ns₇ st₈ ns₈ st₉ ns₉ (fill_one a) = refl
-  row_6 (some e) st _ st₇ ns₇ st₈ ns₈ st₉ ns₉ (fill_one a) = refl
+  row_6 None st _ st₇ ns₇ st₈ ns₈ st₉ ns₉ (fill_none _) = refl
+  row_6 (Some e) st _ st₇ ns₇ st₈ ns₈ st₉ ns₉ (fill_none _) = refl
+  row_6 None st _ st₇ ns₇ st₈ ns₈ st₉ ns₉ (fill_one a) = refl
+  row_6 (Some e) st _ st₇ ns₇ st₈ ns₈ st₉ ns₉ (fill_one a) = refl
 
   row_7 : (o : Option Edge) (st : ℤ) (ns : List ℤ) (st₆ : ℤ) (ns₆ : List ℤ) (st₈ : ℤ) (ns₈ : List ℤ) (st₉ : ℤ) (ns₉ : List ℤ) → Fill 2 ns
       → entered 48 59 st ns (once_scratch o st₆ ns₆ (pos 0) [] st₈ ns₈ st₉ ns₉) ≡ once_scratch o st₆ ns₆ st ns st₈ ns₈ st₉ ns₉
-  row_7 none st _ st₆ ns₆ st₈ ns₈ st₉ ns₉ (fill_none _) = refl
-  row_7 (some e) st _ st₆ ns₆ st₈ ns₈ st₉ ns₉ (fill_none _) = refl
-  row_7 none st _ st₆ ns₆ st₈ ns₈ st₉ ns₉ (fill-two a b) = refl
-  row_7 (some e) st _ st₆ ns₆ st₈ ns₈ st₉ ns₉ (fill-two a b) = refl
+  row_7 None st _ st₆ ns₆ st₈ ns₈ st₉ ns₉ (fill_none _) = refl
+  row_7 (Some e) st _ st₆ ns₆ st₈ ns₈ st₉ ns₉ (fill_none _) = refl
+  row_7 None st _ st₆ ns₆ st₈ ns₈ st₉ ns₉ (fill-two a b) = refl
+  row_7 (Some e) st _ st₆ ns₆ st₈ ns₈ st₉ ns₉ (fill-two a b) = refl
 
   row_8 : (o : Option Edge) (st : ℤ) (ns : List ℤ) (st₆ : ℤ) (ns₆ : List ℤ) (st₇ : ℤ) (ns₇ : List ℤ) (st₉ : ℤ) (ns₉ : List ℤ) → Fill 3 ns
       → entered 50 60 st ns (once_scratch o st₆ ns₆ st₇ ns₇ (pos 0) [] st₉ ns₉) ≡ once_scratch o st₆ ns₆ st₇ ns₇ st ns st₉ ns₉
-  row_8 none st _ st₆ ns₆ st₇ ns₇ st₉ ns₉ (fill_none _) = refl
-  row_8 (some e) st _ st₆ ns₆ st₇ ns₇ st₉ ns₉ (fill_none _) = refl
-  row_8 none st _ st₆ ns₆ st₇ ns₇ st₉ ns₉ (fill-three a b c) = refl
-  row_8 (some e) st _ st₆ ns₆ st₇ ns₇ st₉ ns₉ (fill-three a b c) = refl
+  row_8 None st _ st₆ ns₆ st₇ ns₇ st₉ ns₉ (fill_none _) = refl
+  row_8 (Some e) st _ st₆ ns₆ st₇ ns₇ st₉ ns₉ (fill_none _) = refl
+  row_8 None st _ st₆ ns₆ st₇ ns₇ st₉ ns₉ (fill-three a b c) = refl
+  row_8 (Some e) st _ st₆ ns₆ st₇ ns₇ st₉ ns₉ (fill-three a b c) = refl
 
   row_9 : (o : Option Edge) (st : ℤ) (ns : List ℤ) (st₆ : ℤ) (ns₆ : List ℤ) (st₇ : ℤ) (ns₇ : List ℤ) (st₈ : ℤ) (ns₈ : List ℤ) → Fill 5 ns
       → entered 53 61 st ns (once_scratch o st₆ ns₆ st₇ ns₇ st₈ ns₈ (pos 0) []) ≡ once_scratch o st₆ ns₆ st₇ ns₇ st₈ ns₈ st ns
-  row_9 none st _ st₆ ns₆ st₇ ns₇ st₈ ns₈ (fill_none _) = refl
-  row_9 (some e) st _ st₆ ns₆ st₇ ns₇ st₈ ns₈ (fill_none _) = refl
-  row_9 none st _ st₆ ns₆ st₇ ns₇ st₈ ns₈ (fill-five a b c d e) = refl
-  row_9 (some u) st _ st₆ ns₆ st₇ ns₇ st₈ ns₈ (fill-five a b c d e) = refl
+  row_9 None st _ st₆ ns₆ st₇ ns₇ st₈ ns₈ (fill_none _) = refl
+  row_9 (Some e) st _ st₆ ns₆ st₇ ns₇ st₈ ns₈ (fill_none _) = refl
+  row_9 None st _ st₆ ns₆ st₇ ns₇ st₈ ns₈ (fill-five a b c d e) = refl
+  row_9 (Some u) st _ st₆ ns₆ st₇ ns₇ st₈ ns₈ (fill-five a b c d e) = refl
 
 -- by the values: a row that is free takes this one
 module _ (k volume n : ℕ) (g₀ g₁ g₂ : List (List Num)) (ts : List Slots) (o : Option Edge) where
   abbrev pub once_read : Option Value → Option Value → Option Value → Option Value → List ℤ
   once_read o₆ o₇ o₈ o₉ = empty_record ++ former_numbers o (spelled g₀ g₁ g₂ ts (once_of k volume n o₆ o₇ o₈ o₉))
 
-  pub length-put : (v : Value) (o₇ o₈ o₉ : Option Value) → Fill 1 (numbers v) → own_read 6 v (once_read none o₇ o₈ o₉) ≡ once_read (some v) o₇ o₈ o₉
+  pub length-put : (v : Value) (o₇ o₈ o₉ : Option Value) → Fill 1 (numbers v) → own_read 6 v (once_read None o₇ o₈ o₉) ≡ once_read (Some v) o₇ o₈ o₉
   unfolding table_of wire_table
   length-put v o₇ o₈ o₉ f = row_6 k volume n g₀ g₁ g₂ ts o (given v) (numbers v) (state_of o₇) (numbers_of o₇) (state_of o₈) (numbers_of o₈) (state_of o₉) (numbers_of o₉) f
 
-  pub circuit-put : (v : Value) (o₆ o₈ o₉ : Option Value) → Fill 2 (numbers v) → own_read 7 v (once_read o₆ none o₈ o₉) ≡ once_read o₆ (some v) o₈ o₉
+  pub circuit-put : (v : Value) (o₆ o₈ o₉ : Option Value) → Fill 2 (numbers v) → own_read 7 v (once_read o₆ None o₈ o₉) ≡ once_read o₆ (Some v) o₈ o₉
   unfolding table_of wire_table
   circuit-put v o₆ o₈ o₉ f = row_7 k volume n g₀ g₁ g₂ ts o (given v) (numbers v) (state_of o₆) (numbers_of o₆) (state_of o₈) (numbers_of o₈) (state_of o₉) (numbers_of o₉) f
 
-  pub power-put : (v : Value) (o₆ o₇ o₉ : Option Value) → Fill 3 (numbers v) → own_read 8 v (once_read o₆ o₇ none o₉) ≡ once_read o₆ o₇ (some v) o₉
+  pub power-put : (v : Value) (o₆ o₇ o₉ : Option Value) → Fill 3 (numbers v) → own_read 8 v (once_read o₆ o₇ None o₉) ≡ once_read o₆ o₇ (Some v) o₉
   unfolding table_of wire_table
   power-put v o₆ o₇ o₉ f = row_8 k volume n g₀ g₁ g₂ ts o (given v) (numbers v) (state_of o₆) (numbers_of o₆) (state_of o₇) (numbers_of o₇) (state_of o₉) (numbers_of o₉) f
 
-  pub serial-put : (v : Value) (o₆ o₇ o₈ : Option Value) → Fill 5 (numbers v) → own_read 9 v (once_read o₆ o₇ o₈ none) ≡ once_read o₆ o₇ o₈ (some v)
+  pub serial-put : (v : Value) (o₆ o₇ o₈ : Option Value) → Fill 5 (numbers v) → own_read 9 v (once_read o₆ o₇ o₈ None) ≡ once_read o₆ o₇ o₈ (Some v)
   unfolding table_of wire_table
   serial-put v o₆ o₇ o₈ f = row_9 k volume n g₀ g₁ g₂ ts o (given v) (numbers v) (state_of o₆) (numbers_of o₆) (state_of o₇) (numbers_of o₇) (state_of o₈) (numbers_of o₈) f
 
@@ -301,8 +301,8 @@ module _ (k volume n : ℕ) (g₀ g₁ g₂ : List (List Num)) (ts : List Slots)
 pub text-begin : (g₀ g₁ g₂ : List (List Num)) (ts : List Slots) (b : List ℤ) (o : Option Edge)
     → own_read 5 (nums []) (scratch ts b o g₀ g₁ g₂) ≡ empty_record ++ former_numbers o (text_begun 1 (spelled g₀ g₁ g₂ ts b))
 unfolding table_of wire_table
-text-begin g₀ g₁ g₂ ts b none = refl
-text-begin g₀ g₁ g₂ ts b (some e) = refl
+text-begin g₀ g₁ g₂ ts b None = refl
+text-begin g₀ g₁ g₂ ts b (Some e) = refl
 
 -- s: its slots
 abbrev pub text_on : Slots → List ℤ
@@ -311,8 +311,8 @@ text_on s = put_slots wire_text_table s empty_record
 pub text-put : (g₀ g₁ g₂ : List (List Num)) (ts : List Slots) (b : List ℤ) (o : Option Edge) (s : Slots)
     → shelved text_from text_shelf (text_on s ++ former_numbers o (text_begun 1 (spelled g₀ g₁ g₂ ts b))) ≡ scratch (ts ++ s ∷ []) b o g₀ g₁ g₂
 unfolding text_table
-text-put g₀ g₁ g₂ [] b none s = refl
-text-put g₀ g₁ g₂ [] b (some e) s = refl
+text-put g₀ g₁ g₂ [] b None s = refl
+text-put g₀ g₁ g₂ [] b (Some e) s = refl
 text-put g₀ g₁ g₂ (u ∷ ts) b o s = more o ∙ ap (λ (m : ℕ). empty_record ++ former_numbers o (cells (length g₀) (shown_lines 2 4 g₀) (length g₁) (shown_lines 1 3 g₁) (length g₂) (shown_lines 1 5 g₂) (suc m) (text_numbers u) b)) (one-longer ts s)
   where
     shelved_text : Bool → List ℤ → List ℤ
@@ -320,20 +320,20 @@ text-put g₀ g₁ g₂ (u ∷ ts) b o s = more o ∙ ap (λ (m : ℕ). empty_re
 
     more : (o : Option Edge) → shelved text_from text_shelf (text_on s ++ former_numbers o (text_begun 1 (spelled g₀ g₁ g₂ (u ∷ ts) b)))
         ≡ empty_record ++ former_numbers o (cells (length g₀) (shown_lines 2 4 g₀) (length g₁) (shown_lines 1 3 g₁) (length g₂) (shown_lines 1 5 g₂) (suc (suc (length ts))) (text_numbers u) b)
-    more none = ap (λ (c : Bool). shelved_text c (text_on s ++ former_numbers none (text_begun 1 (spelled g₀ g₁ g₂ (u ∷ ts) b)))) (many-one (length ts))
-    more (some e) = ap (λ (c : Bool). shelved_text c (text_on s ++ former_numbers (some e) (text_begun 1 (spelled g₀ g₁ g₂ (u ∷ ts) b)))) (many-one (length ts))
+    more None = ap (λ (c : Bool). shelved_text c (text_on s ++ former_numbers None (text_begun 1 (spelled g₀ g₁ g₂ (u ∷ ts) b)))) (many-one (length ts))
+    more (Some e) = ap (λ (c : Bool). shelved_text c (text_on s ++ former_numbers (Some e) (text_begun 1 (spelled g₀ g₁ g₂ (u ∷ ts) b)))) (many-one (length ts))
 
 -- ── counts ──
 pub counts-at : (g₀ g₁ g₂ : List (List Num)) (ts : List Slots) (b f : List ℤ) (o : Option Edge) → length f ≡ 32
     → (get_or (scratch ts b o g₀ g₁ g₂) 38 (pos 0) ≡ pos (length g₀)) × (get_or (scratch ts b o g₀ g₁ g₂) 47 (pos 0) ≡ pos (length g₁)) × (get_or (scratch ts b o g₀ g₁ g₂) 51 (pos 0) ≡ pos (length g₂))
     × (get_or (scratch ts b o g₀ g₁ g₂) 69 (pos 0) ≡ pos (length ts))
-counts-at g₀ g₁ g₂ ts b f none e = (refl, refl, refl, refl)
-counts-at g₀ g₁ g₂ ts b f (some u) e = (refl, refl, refl, refl)
+counts-at g₀ g₁ g₂ ts b f None e = (refl, refl, refl, refl)
+counts-at g₀ g₁ g₂ ts b f (Some u) e = (refl, refl, refl, refl)
 
 -- ── its end ──
 pub close-counted : (k volume n range points : ℕ) (g₀ g₁ g₂ : List (List Num)) (ts : List Slots) (o₆ o₇ o₈ o₉ : Option Value) (o : Option Edge)
     → set (set (former_cleared (empty_record ++ former_numbers o (spelled g₀ g₁ g₂ ts (once_of k volume n o₆ o₇ o₈ o₉)))) 37 (pos points)) 62 (pos (range / 100))
     ≡ empty_record ++ wire_numbers range points (spelled g₀ g₁ g₂ ts (once_of k volume n o₆ o₇ o₈ o₉))
 unfolding wire_table
-close-counted k volume n range points g₀ g₁ g₂ ts o₆ o₇ o₈ o₉ none = refl
-close-counted k volume n range points g₀ g₁ g₂ ts o₆ o₇ o₈ o₉ (some e) = refl
+close-counted k volume n range points g₀ g₁ g₂ ts o₆ o₇ o₈ o₉ None = refl
+close-counted k volume n range points g₀ g₁ g₂ ts o₆ o₇ o₈ o₉ (Some e) = refl

@@ -1,9 +1,9 @@
 -- The table behind a line of a wire: a place for each of its two records from its own line on, its elements' records behind them, and the
 -- two put at its end.
+use Rattle.std.specs.Prelude.{Some}
 use Prim.Native.Nat.{ℕ, ◌+◌, ◌*◌, ◌-◌}
 use mathlib.Core.Bool.{true}
 use mathlib.Core.List.{List, [], ◌∷◌, ◌++◌, map, append-nil, append_assoc}
-use mathlib.Core.Option.{some}
 use mathlib.Core.Path.{◌≡◌, refl, sym, ◌∙◌, ap}
 use native.Mathlib.Omega.{arith}
 use lib.IntN.{ℤ, pos}
@@ -32,8 +32,8 @@ use Rattle.standing.proofs.Standings.{Sight, sight}
 -- ── its elements' records ──
 pub edge-long : (k volume : ℕ) (e : Edge) → length (edge_record k volume e) ≡ 32
 edge-long k volume e =
-    length-set (put_slot (rule_at wire_table e.row) (some (nums e.values)) (start (kind_edge + e.row) k volume e.line)) 11 (pos e.join)
-    ∙ length-slot (rule_at wire_table e.row) (some (nums e.values)) (start (kind_edge + e.row) k volume e.line)
+    length-set (put_slot (rule_at wire_table e.row) (Some (nums e.values)) (start (kind_edge + e.row) k volume e.line)) 11 (pos e.join)
+    ∙ length-slot (rule_at wire_table e.row) (Some (nums e.values)) (start (kind_edge + e.row) k volume e.line)
 
 edges-size : (k volume : ℕ) (es : List Edge) → length (flat (edge_records k volume es)) ≡ 32 * length es
 edges-size k volume [] = refl

@@ -1,9 +1,9 @@
 -- A line of a key that stands once, or the opener of a text, directly in a wire that is read: from the code's answer to the step that the
 -- definitions make.
+use Rattle.std.specs.Prelude.{Option, Some, None}
 use Prim.Native.Nat.{ℕ, zero, suc, ◌+◌, ◌-◌, ◌≤◌, ◌<◌}
 use mathlib.Core.Bool.{Bool, true, false, cond, ◌&&◌, ◌||◌, not}
 use mathlib.Core.List.{List, [], ◌∷◌, ◌++◌}
-use mathlib.Core.Option.{Option, none, some}
 use mathlib.Core.Path.{◌≡◌, refl, sym, ◌∙◌, ap, subst}
 use native.Mathlib.Omega.{arith}
 use borrow.Author.Tests.{eqb-true, eqb-false}
@@ -172,16 +172,16 @@ serial-first k at c v e =
         let own = map-got (λ n. num (pos n)) (or_bad 10 (read_count 10 p)) u.0 u.2 in
         (own.0, u.1, sym u.4 ∙ ap (λ (y : Num). y ∷ u.1) (sym own.2))
 
-own_cell : (s : Set) (m n : ℕ) (w : Wire) (a : length w.own ≡ 10) (b : take 6 w.own ≡ replicate 6 none) (e : length w.groups ≡ 3) (o : Option Edge) (v : Value) → get_or w.own 9 none ≡ some v
+own_cell : (s : Set) (m n : ℕ) (w : Wire) (a : length w.own ≡ 10) (b : take 6 w.own ≡ replicate 6 None) (e : length w.groups ≡ 3) (o : Option Edge) (v : Value) → get_or w.own 9 None ≡ Some v
     → (i : ℕ) (ns : List Num) → v ≡ nums (num (pos i) ∷ ns) → own_in (wire_scratch empty_record o (cells_of s m n w a b e)) ≡ amount_at v 0
 unfolding wire_table
 own_cell s m n w a b e o v there i ns is =
-    ap (λ (u : Option Value). own_in (wire_scratch empty_record o (spelled (direcs_of w) (piends_of w) (nums_in w) w.texts (once_of m (volume_of s) n (slot_of 6 w) (slot_of 7 w) (slot_of 8 w) u)))) (there ∙ ap some is)
+    ap (λ (u : Option Value). own_in (wire_scratch empty_record o (spelled (direcs_of w) (piends_of w) (nums_in w) w.texts (once_of m (volume_of s) n (slot_of 6 w) (slot_of 7 w) (slot_of 8 w) u)))) (there ∙ ap Some is)
     ∙ go o ∙ ap (λ (u : Value). amount_at u 0) (sym is)
   where
-    go : (o : Option Edge) → own_in (wire_scratch empty_record o (spelled (direcs_of w) (piends_of w) (nums_in w) w.texts (once_of m (volume_of s) n (slot_of 6 w) (slot_of 7 w) (slot_of 8 w) (some (nums (num (pos i) ∷ ns)))))) ≡ amount_at (nums (num (pos i) ∷ ns)) 0
-    go none = refl
-    go (some u) = refl
+    go : (o : Option Edge) → own_in (wire_scratch empty_record o (spelled (direcs_of w) (piends_of w) (nums_in w) w.texts (once_of m (volume_of s) n (slot_of 6 w) (slot_of 7 w) (slot_of 8 w) (Some (nums (num (pos i) ∷ ns)))))) ≡ amount_at (nums (num (pos i) ∷ ns)) 0
+    go None = refl
+    go (Some u) = refl
 
 module _ (c : Class) (spool : List ℕ) (k : ℕ) (FileHere : Desk → Set → ℕ → Held → ℕ → Type 0) (d : Desk) (at to own : ℕ) (l : Line) (w : Where) (form : LineForm)
     (x : LineHere spool k at to form w l) (s : Set) (m : ℕ) (fs : List Figure) (n : ℕ) (wire : Wire) (z : Stands c spool k d (FileHere d) at (placing s m fs n (wire_block wire) 0)) where
@@ -201,9 +201,9 @@ module _ (c : Class) (spool : List ℕ) (k : ℕ) (FileHere : Desk → Set → �
   slots-are = own-slots s m n wire read₀.slots read₀.repeats read₀.groups
 
   -- ── a row's line, i being its number among those that stand once ──
-  module _ (i : ℕ) (few : i < 4) (v : Value) (fill : FillOf i v) (free : get_or wire.own (6 + i) none ≡ none) where
+  module _ (i : ℕ) (few : i < 4) (v : Value) (fill : FillOf i v) (free : get_or wire.own (6 + i) None ≡ None) where
     abbrev slots' : Slots
-    slots' = set wire.own (6 + i) (some v)
+    slots' = set wire.own (6 + i) (Some v)
 
     abbrev wire' : Wire
     wire' = with_once slots' wire
@@ -212,12 +212,12 @@ module _ (c : Class) (spool : List ℕ) (k : ℕ) (FileHere : Desk → Set → �
     st' = placing s m fs n (wire_block wire') 0
 
     ten' : length slots' ≡ 10
-    ten' = length-set wire.own (6 + i) (some v) ∙ read₀.slots
+    ten' = length-set wire.own (6 + i) (Some v) ∙ read₀.slots
 
-    repeats' : take 6 slots' ≡ replicate 6 none
-    repeats' = ap (λ (u : Slots). take 6 (set u (6 + i) (some v))) slots-are ∙ go i few
+    repeats' : take 6 slots' ≡ replicate 6 None
+    repeats' = ap (λ (u : Slots). take 6 (set u (6 + i) (Some v))) slots-are ∙ go i few
       where
-        go : (i : ℕ) → i < 4 → take 6 (set (once_slots (slot_of 6 wire) (slot_of 7 wire) (slot_of 8 wire) (slot_of 9 wire)) (6 + i) (some v)) ≡ replicate 6 none
+        go : (i : ℕ) → i < 4 → take 6 (set (once_slots (slot_of 6 wire) (slot_of 7 wire) (slot_of 8 wire) (slot_of 9 wire)) (6 + i) (Some v)) ≡ replicate 6 None
         go zero h = refl
         go (suc zero) h = refl
         go (suc (suc zero)) h = refl
@@ -230,10 +230,10 @@ module _ (c : Class) (spool : List ℕ) (k : ℕ) (FileHere : Desk → Set → �
 
     -- the other slots stay
     other : (j : ℕ) → (j ≡ 6 + i → ⊥) → slot_of j wire ≡ slot_of j wire'
-    other j h = sym (get_or-set_other wire.own (6 + i) j (some v) none h)
+    other j h = sym (get_or-set_other wire.own (6 + i) j (Some v) None h)
 
-    this : some v ≡ slot_of (6 + i) wire'
-    this = sym (get_or-set_same wire.own (6 + i) (some v) none (omega (arith, few, read₀.slots)))
+    this : Some v ≡ slot_of (6 + i) wire'
+    this = sym (get_or-set_same wire.own (6 + i) (Some v) None (omega (arith, few, read₀.slots)))
 
     abbrev by : Option Value → Option Value → Option Value → Option Value → List ℤ
     by o₆ o₇ o₈ o₉ = wire_scratch empty_record formerly (spelled (direcs_of wire) (piends_of wire) (nums_in wire) wire.texts (once_of m (volume_of s) n o₆ o₇ o₈ o₉))
@@ -241,38 +241,38 @@ module _ (c : Class) (spool : List ℕ) (k : ℕ) (FileHere : Desk → Set → �
     entered : own_read (6 + i) v d.scratch ≡ wire_scratch empty_record formerly (cells_of s m n wire' ten' repeats' read₀.groups)
     entered = ap (own_read (6 + i) v) (before c spool k FileHere d at to own l w form x s m fs n wire z) ∙ go i few fill free other this
       where
-        go : (i : ℕ) (few : i < 4) → FillOf i v → get_or wire.own (6 + i) none ≡ none
-            → ((j : ℕ) → (j ≡ 6 + i → ⊥) → slot_of j wire ≡ get_or (set wire.own (6 + i) (some v)) j none) → some v ≡ get_or (set wire.own (6 + i) (some v)) (6 + i) none
+        go : (i : ℕ) (few : i < 4) → FillOf i v → get_or wire.own (6 + i) None ≡ None
+            → ((j : ℕ) → (j ≡ 6 + i → ⊥) → slot_of j wire ≡ get_or (set wire.own (6 + i) (Some v)) j None) → Some v ≡ get_or (set wire.own (6 + i) (Some v)) (6 + i) None
             → own_read (6 + i) v (by (slot_of 6 wire) (slot_of 7 wire) (slot_of 8 wire) (slot_of 9 wire))
-            ≡ by (get_or (set wire.own (6 + i) (some v)) 6 none) (get_or (set wire.own (6 + i) (some v)) 7 none) (get_or (set wire.own (6 + i) (some v)) 8 none) (get_or (set wire.own (6 + i) (some v)) 9 none)
+            ≡ by (get_or (set wire.own (6 + i) (Some v)) 6 None) (get_or (set wire.own (6 + i) (Some v)) 7 None) (get_or (set wire.own (6 + i) (Some v)) 8 None) (get_or (set wire.own (6 + i) (Some v)) 9 None)
         go zero few f e other this =
             ap (λ (o : Option Value). own_read 6 v (by o (slot_of 7 wire) (slot_of 8 wire) (slot_of 9 wire))) e
             ∙ length-put m (volume_of s) n (direcs_of wire) (piends_of wire) (nums_in wire) wire.texts formerly v (slot_of 7 wire) (slot_of 8 wire) (slot_of 9 wire) f
             ∙ ap (λ (o : Option Value). by o (slot_of 7 wire) (slot_of 8 wire) (slot_of 9 wire)) this
-            ∙ ap (λ (o : Option Value). by (get_or (set wire.own 6 (some v)) 6 none) o (slot_of 8 wire) (slot_of 9 wire)) (other 7 (λ q. omega (arith, q)))
-            ∙ ap (λ (o : Option Value). by (get_or (set wire.own 6 (some v)) 6 none) (get_or (set wire.own 6 (some v)) 7 none) o (slot_of 9 wire)) (other 8 (λ q. omega (arith, q)))
-            ∙ ap (by (get_or (set wire.own 6 (some v)) 6 none) (get_or (set wire.own 6 (some v)) 7 none) (get_or (set wire.own 6 (some v)) 8 none)) (other 9 (λ q. omega (arith, q)))
+            ∙ ap (λ (o : Option Value). by (get_or (set wire.own 6 (Some v)) 6 None) o (slot_of 8 wire) (slot_of 9 wire)) (other 7 (λ q. omega (arith, q)))
+            ∙ ap (λ (o : Option Value). by (get_or (set wire.own 6 (Some v)) 6 None) (get_or (set wire.own 6 (Some v)) 7 None) o (slot_of 9 wire)) (other 8 (λ q. omega (arith, q)))
+            ∙ ap (by (get_or (set wire.own 6 (Some v)) 6 None) (get_or (set wire.own 6 (Some v)) 7 None) (get_or (set wire.own 6 (Some v)) 8 None)) (other 9 (λ q. omega (arith, q)))
         go (suc zero) few f e other this =
             ap (λ (o : Option Value). own_read 7 v (by (slot_of 6 wire) o (slot_of 8 wire) (slot_of 9 wire))) e
             ∙ circuit-put m (volume_of s) n (direcs_of wire) (piends_of wire) (nums_in wire) wire.texts formerly v (slot_of 6 wire) (slot_of 8 wire) (slot_of 9 wire) f
-            ∙ ap (λ (o : Option Value). by o (some v) (slot_of 8 wire) (slot_of 9 wire)) (other 6 (λ q. omega (arith, q)))
-            ∙ ap (λ (o : Option Value). by (get_or (set wire.own 7 (some v)) 6 none) o (slot_of 8 wire) (slot_of 9 wire)) this
-            ∙ ap (λ (o : Option Value). by (get_or (set wire.own 7 (some v)) 6 none) (get_or (set wire.own 7 (some v)) 7 none) o (slot_of 9 wire)) (other 8 (λ q. omega (arith, q)))
-            ∙ ap (by (get_or (set wire.own 7 (some v)) 6 none) (get_or (set wire.own 7 (some v)) 7 none) (get_or (set wire.own 7 (some v)) 8 none)) (other 9 (λ q. omega (arith, q)))
+            ∙ ap (λ (o : Option Value). by o (Some v) (slot_of 8 wire) (slot_of 9 wire)) (other 6 (λ q. omega (arith, q)))
+            ∙ ap (λ (o : Option Value). by (get_or (set wire.own 7 (Some v)) 6 None) o (slot_of 8 wire) (slot_of 9 wire)) this
+            ∙ ap (λ (o : Option Value). by (get_or (set wire.own 7 (Some v)) 6 None) (get_or (set wire.own 7 (Some v)) 7 None) o (slot_of 9 wire)) (other 8 (λ q. omega (arith, q)))
+            ∙ ap (by (get_or (set wire.own 7 (Some v)) 6 None) (get_or (set wire.own 7 (Some v)) 7 None) (get_or (set wire.own 7 (Some v)) 8 None)) (other 9 (λ q. omega (arith, q)))
         go (suc (suc zero)) few f e other this =
             ap (λ (o : Option Value). own_read 8 v (by (slot_of 6 wire) (slot_of 7 wire) o (slot_of 9 wire))) e
             ∙ power-put m (volume_of s) n (direcs_of wire) (piends_of wire) (nums_in wire) wire.texts formerly v (slot_of 6 wire) (slot_of 7 wire) (slot_of 9 wire) f
-            ∙ ap (λ (o : Option Value). by o (slot_of 7 wire) (some v) (slot_of 9 wire)) (other 6 (λ q. omega (arith, q)))
-            ∙ ap (λ (o : Option Value). by (get_or (set wire.own 8 (some v)) 6 none) o (some v) (slot_of 9 wire)) (other 7 (λ q. omega (arith, q)))
-            ∙ ap (λ (o : Option Value). by (get_or (set wire.own 8 (some v)) 6 none) (get_or (set wire.own 8 (some v)) 7 none) o (slot_of 9 wire)) this
-            ∙ ap (by (get_or (set wire.own 8 (some v)) 6 none) (get_or (set wire.own 8 (some v)) 7 none) (get_or (set wire.own 8 (some v)) 8 none)) (other 9 (λ q. omega (arith, q)))
+            ∙ ap (λ (o : Option Value). by o (slot_of 7 wire) (Some v) (slot_of 9 wire)) (other 6 (λ q. omega (arith, q)))
+            ∙ ap (λ (o : Option Value). by (get_or (set wire.own 8 (Some v)) 6 None) o (Some v) (slot_of 9 wire)) (other 7 (λ q. omega (arith, q)))
+            ∙ ap (λ (o : Option Value). by (get_or (set wire.own 8 (Some v)) 6 None) (get_or (set wire.own 8 (Some v)) 7 None) o (slot_of 9 wire)) this
+            ∙ ap (by (get_or (set wire.own 8 (Some v)) 6 None) (get_or (set wire.own 8 (Some v)) 7 None) (get_or (set wire.own 8 (Some v)) 8 None)) (other 9 (λ q. omega (arith, q)))
         go (suc (suc (suc zero))) few f e other this =
             ap (λ (o : Option Value). own_read 9 v (by (slot_of 6 wire) (slot_of 7 wire) (slot_of 8 wire) o)) e
             ∙ serial-put m (volume_of s) n (direcs_of wire) (piends_of wire) (nums_in wire) wire.texts formerly v (slot_of 6 wire) (slot_of 7 wire) (slot_of 8 wire) f
-            ∙ ap (λ (o : Option Value). by o (slot_of 7 wire) (slot_of 8 wire) (some v)) (other 6 (λ q. omega (arith, q)))
-            ∙ ap (λ (o : Option Value). by (get_or (set wire.own 9 (some v)) 6 none) o (slot_of 8 wire) (some v)) (other 7 (λ q. omega (arith, q)))
-            ∙ ap (λ (o : Option Value). by (get_or (set wire.own 9 (some v)) 6 none) (get_or (set wire.own 9 (some v)) 7 none) o (some v)) (other 8 (λ q. omega (arith, q)))
-            ∙ ap (by (get_or (set wire.own 9 (some v)) 6 none) (get_or (set wire.own 9 (some v)) 7 none) (get_or (set wire.own 9 (some v)) 8 none)) this
+            ∙ ap (λ (o : Option Value). by o (slot_of 7 wire) (slot_of 8 wire) (Some v)) (other 6 (λ q. omega (arith, q)))
+            ∙ ap (λ (o : Option Value). by (get_or (set wire.own 9 (Some v)) 6 None) o (slot_of 8 wire) (Some v)) (other 7 (λ q. omega (arith, q)))
+            ∙ ap (λ (o : Option Value). by (get_or (set wire.own 9 (Some v)) 6 None) (get_or (set wire.own 9 (Some v)) 7 None) o (Some v)) (other 8 (λ q. omega (arith, q)))
+            ∙ ap (by (get_or (set wire.own 9 (Some v)) 6 None) (get_or (set wire.own 9 (Some v)) 7 None) (get_or (set wire.own 9 (Some v)) 8 None)) this
         go (suc (suc (suc (suc i)))) few f e other this = absurd (omega (arith, few))
 
     scratch' : (t₁ : List ℤ) → t₁ ≡ own_read (6 + i) v d.scratch → Scratch t₁ st'
@@ -350,7 +350,7 @@ module _ (c : Class) (spool : List ℕ) (k : ℕ) (FileHere : Desk → Set → �
         fill : FillOf j v
         fill = once-fills j v few (subst (λ (u : ℕ). fills (rule_at wire_table u).holds (numbers v) ≡ true) e taken.fill)
 
-        free : get_or wire.own (6 + j) none ≡ none
+        free : get_or wire.own (6 + j) None ≡ None
         free =
             mark-free wire.own (6 + j)
             (full-free j few (subst (λ (u : ℕ). get_or (wire_full wire) u false ≡ false) e taken.free))
@@ -372,7 +372,7 @@ module _ (c : Class) (spool : List ℕ) (k : ℕ) (FileHere : Desk → Set → �
             ∙ ap (λ (u : ℕ). cond (is_element_row u) (on_element (unlimited c) l s m fs n wire u (nums_of v)) (on_attribute s m fs n wire u v)) e
             ∙ by j few fill free
           where
-            by : (j : ℕ) (few : j < 4) (fill : FillOf j v) (free : get_or wire.own (6 + j) none ≡ none)
+            by : (j : ℕ) (few : j < 4) (fill : FillOf j v) (free : get_or wire.own (6 + j) None ≡ None)
                 → cond (is_element_row (6 + j)) (on_element (unlimited c) l s m fs n wire (6 + j) (nums_of v)) (on_attribute s m fs n wire (6 + j) v) ≡ unless (new_number s fs (6 + j) v) 15 (got (st' j few v fill free))
             by zero few fill free = refl
             by (suc zero) few fill free = refl
@@ -386,7 +386,7 @@ module _ (c : Class) (spool : List ℕ) (k : ℕ) (FileHere : Desk → Set → �
             let plain : 9 ≡ 6 + j → ⊥ = λ u. eqb-false i 9 b (e ∙ sym u) in
             let lent_is : x₁ ≡ lent d.tally d.serials (set d.marks (6 + j) true) d.inner =
             y ∙ ap (λ (t : Bool). lent_with t (lent_by d) i (own_in (own_read i v d.scratch)) (content_at rest)) b ∙ ap (λ (u : ℕ). lent d.tally d.serials (set d.marks u true) d.inner) e in
-            let quiet : new_number s fs (6 + j) v ≡ true = ap (λ (t : Bool). not t || none_of (own_number (some v)) (numbers_so_far s fs)) (ap (λ (u : ℕ). eqb u 9) (sym e) ∙ b) in
+            let quiet : new_number s fs (6 + j) v ≡ true = ap (λ (t : Bool). not t || none_of (own_number (Some v)) (numbers_so_far s fs)) (ap (λ (u : ℕ). eqb u 9) (sym e) ∙ b) in
             goes-still c spool k FileHere own l to st₀ (wire_desk d x₁ t₁) (past_now d.now) (st' j few v fill free) (stepped ∙ ap (λ (t : Bool). unless t 15 (got (st' j few v fill free))) quiet) z.block.0 refl refl refl
             (subst (λ (u : Lent). StandsAt c spool k FileHere (desk_now (wire_desk d u t₁) (past_now d.now)) to (st' j few v fill free)) (sym lent_is)
             (once-stands j few v fill free plain t₁ (q ∙ ap (λ (u : ℕ). own_read u v d.scratch) e)))
@@ -413,14 +413,14 @@ module _ (c : Class) (spool : List ℕ) (k : ℕ) (FileHere : Desk → Set → �
         e : i ≡ 6 + 3
         e = nine
 
-        abbrev free₉ : get_or wire.own 9 none ≡ none
+        abbrev free₉ : get_or wire.own 9 None ≡ None
         free₉ = free 3 e
 
         abbrev wire₉ : Wire
         wire₉ = wire' 3 (few 3 e) v (fill 3 e) free₉
 
-        slot-now : get_or wire₉.own 9 none ≡ some v
-        slot-now = get_or-set_same wire.own 9 (some v) none (omega (arith, read₀.slots))
+        slot-now : get_or wire₉.own 9 None ≡ Some v
+        slot-now = get_or-set_same wire.own 9 (Some v) None (omega (arith, read₀.slots))
 
         taken-so : SerialTaken spool at to n (wire_block wire) (wire_block wire₉) number (wire_partners v) line.place line.bytes
         taken-so = record {

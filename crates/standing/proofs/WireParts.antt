@@ -1,7 +1,7 @@
 -- A wire that is read, part by part: the lists of its keys that repeat, and the slots of those that stand once.
+use Rattle.std.specs.Prelude.{Option, None}
 use Prim.Native.Nat.{ℕ, zero, suc}
 use mathlib.Core.List.{List, [], ◌∷◌, ◌++◌}
-use mathlib.Core.Option.{Option, none}
 use mathlib.Core.Path.{◌≡◌, refl, sym, ◌∙◌, ap}
 use native.Mathlib.Omega.{arith}
 use lib.IntN.{ℤ}
@@ -46,19 +46,19 @@ abbrev pub nums_in : Wire → List (List Num)
 nums_in w = get_or w.groups 2 []
 
 abbrev pub slot_of : ℕ → Wire → Option Value
-slot_of j w = get_or w.own j none
+slot_of j w = get_or w.own j None
 
 three : (gs : List (List (List Num))) → length gs ≡ 3 → gs ≡ get_or gs 0 [] ∷ get_or gs 1 [] ∷ get_or gs 2 [] ∷ []
 three gs e = listed-is [] 3 gs e ∙ sym (ap (λ (u : List (List (List Num))). get_or u 0 [] ∷ get_or u 1 [] ∷ get_or u 2 [] ∷ []) (listed-is [] 3 gs e))
 
-ten : (s : Slots) → length s ≡ 10 → take 6 s ≡ replicate 6 none → s ≡ once_slots (get_or s 6 none) (get_or s 7 none) (get_or s 8 none) (get_or s 9 none)
+ten : (s : Slots) → length s ≡ 10 → take 6 s ≡ replicate 6 None → s ≡ once_slots (get_or s 6 None) (get_or s 7 None) (get_or s 8 None) (get_or s 9 None)
 ten s e r =
-    let four : drop 6 s ≡ listed none 4 (drop 6 s) = listed-is none 4 (drop 6 s) (omega (arith, e, length-drop 6 s)) in
-    let all : s ≡ replicate 6 none ++ listed none 4 (drop 6 s) =
-    sym (take-append-drop 6 s) ∙ ap (λ (u : Slots). u ++ drop 6 s) r ∙ ap (λ (u : Slots). replicate 6 none ++ u) four in
-    all ∙ sym (ap (λ (u : Slots). once_slots (get_or u 6 none) (get_or u 7 none) (get_or u 8 none) (get_or u 9 none)) all)
+    let four : drop 6 s ≡ listed None 4 (drop 6 s) = listed-is None 4 (drop 6 s) (omega (arith, e, length-drop 6 s)) in
+    let all : s ≡ replicate 6 None ++ listed None 4 (drop 6 s) =
+    sym (take-append-drop 6 s) ∙ ap (λ (u : Slots). u ++ drop 6 s) r ∙ ap (λ (u : Slots). replicate 6 None ++ u) four in
+    all ∙ sym (ap (λ (u : Slots). once_slots (get_or u 6 None) (get_or u 7 None) (get_or u 8 None) (get_or u 9 None)) all)
 
-module _ (s : Set) (k n : ℕ) (w : Wire) (slots : length w.own ≡ 10) (repeats : take 6 w.own ≡ replicate 6 none) (groups : length w.groups ≡ 3) where
+module _ (s : Set) (k n : ℕ) (w : Wire) (slots : length w.own ≡ 10) (repeats : take 6 w.own ≡ replicate 6 None) (groups : length w.groups ≡ 3) where
   pub own-slots : w.own ≡ once_slots (slot_of 6 w) (slot_of 7 w) (slot_of 8 w) (slot_of 9 w)
   own-slots = ten w.own slots repeats
 

@@ -1,8 +1,8 @@
 -- A line of an element or of a key that repeats, directly in a wire that is read: from the code's answer to the step that the definitions make.
+use Rattle.std.specs.Prelude.{Option, Some, None}
 use Prim.Native.Nat.{ℕ, zero, suc, ◌+◌, ◌≤◌, ◌<◌}
 use mathlib.Core.Bool.{Bool, true, false, cond}
 use mathlib.Core.List.{List, [], ◌∷◌, ◌++◌}
-use mathlib.Core.Option.{Option, none, some}
 use mathlib.Core.Path.{◌≡◌, refl, sym, ◌∙◌, ap, subst}
 use native.Mathlib.Omega.{arith}
 use borrow.Author.Tests.{eqb-true, lt-ltb, le-ltb}
@@ -118,7 +118,7 @@ begin-at k g full row rule rest i j v a = go (shape_for rule rest) (row-did k g 
     go formless e = never e
 
 -- ── the last element ──
-last_more : (es : List Edge) (e : Edge) → last_edge (es ++ e ∷ []) ≡ some e
+last_more : (es : List Edge) (e : Edge) → last_edge (es ++ e ∷ []) ≡ Some e
 last_more [] e = refl
 last_more (f ∷ []) e = refl
 last_more (f ∷ g ∷ es) e = last_more (g ∷ es) e
@@ -167,7 +167,7 @@ module _ (c : Class) (spool : List ℕ) (k : ℕ) (FileHere : Desk → Set → �
       ∙ ap (λ (u : List ℤ). empty_record ++ u) (so-far-cells s m n wire inr.slots inr.repeats inr.groups 0)
 
   -- the scratch of a wire with nothing open, by its cells
-  pub after : (ks : List ℕ) (v : Wire) (a : length v.own ≡ 10) (b : take 6 v.own ≡ replicate 6 none) (e : length v.groups ≡ 3) → v.writing ≡ [] → (t : List ℤ)
+  pub after : (ks : List ℕ) (v : Wire) (a : length v.own ≡ 10) (b : take 6 v.own ≡ replicate 6 None) (e : length v.groups ≡ 3) → v.writing ≡ [] → (t : List ℤ)
       → t ≡ wire_scratch empty_record (last_edge v.elements) (cells_of s m n v a b e) → Scratch t (placing (with_records ks s) m fs n (wire_block v) 0)
   unfolding text_table
   after ks v a b e q t p =
@@ -175,7 +175,7 @@ module _ (c : Class) (spool : List ℕ) (k : ℕ) (FileHere : Desk → Set → �
       (p ∙ ap (λ (u : List ℤ). empty_record ++ u) (sym (so-far-cells s m n v a b e 0))
       ∙ ap (λ (u : Slots). put_slots wire_text_table u empty_record ++ wire_so_far s m n v 0) (sym q))
 
-  pub still : (v : Wire) (a : length v.own ≡ 10) (b : take 6 v.own ≡ replicate 6 none) (e : length v.groups ≡ 3) → v.writing ≡ [] → (t : List ℤ)
+  pub still : (v : Wire) (a : length v.own ≡ 10) (b : take 6 v.own ≡ replicate 6 None) (e : length v.groups ≡ 3) → v.writing ≡ [] → (t : List ℤ)
       → t ≡ wire_scratch empty_record (last_edge v.elements) (cells_of s m n v a b e) → Scratch t (placing s m fs n (wire_block v) 0)
   unfolding text_table
   still v a b e q t p =
@@ -225,10 +225,10 @@ module _ (c : Class) (spool : List ℕ) (k : ℕ) (FileHere : Desk → Set → �
         let now : Now = more_points d.now in
         let put : t₁ ≡ edge_scratch m volume edge cells =
         p ∙ ap (element_put ends d.now w j) read_is ∙ element-put m volume cells cells-long no-former ends d.now w l.line j vs former full owner-is volume-is x.line in
-        let two : List ℤ = former_numbers (some edge) cells in
+        let two : List ℤ = former_numbers (Some edge) cells in
         let long : length (edge_record m volume edge) ≡ 32 = edge-long m volume edge in
         let there : part_at 0 t₁ ≡ edge_record m volume edge = ap (take 32) put ∙ take_at (edge_record m volume edge) two 32 long in
-        let cleared : with_part 0 empty_record t₁ ≡ wire_scratch empty_record (some edge) cells =
+        let cleared : with_part 0 empty_record t₁ ≡ wire_scratch empty_record (Some edge) cells =
         ap (λ (u : List ℤ). empty_record ++ u) (ap (drop 32) put ∙ drop_at (edge_record m volume edge) two 32 long) in
         goes_filling c spool k FileHere own l to st (wire_desk d (lent_by d) t₁) now st₁ step 0 d.now.records
         (completed-line d.now now 12 0 z.block.0 refl z.block.0 refl) (number_same d.now now own refl) 1 refl refl

@@ -1,9 +1,9 @@
 -- The scratch of an open wire: an element's record at its front, for the length of its line, and behind it the wire's two. What the line of
 -- its opener, of an element and of its end leaves there.
+use Rattle.std.specs.Prelude.{Option, Some, None}
 use Prim.Native.Nat.{ℕ, zero, suc, ◌+◌, ◌<◌}
 use mathlib.Core.Bool.{Bool, true, false, cond, ◌&&◌, ◌||◌, not}
 use mathlib.Core.List.{List, [], ◌∷◌, ◌++◌, append_assoc}
-use mathlib.Core.Option.{Option, none, some}
 use mathlib.Core.Path.{◌≡◌, refl, sym, ◌∙◌, ap, subst}
 use native.Mathlib.Omega.{arith}
 use borrow.Author.Tests.{eqb-true, ne_eqb, lt-leb}
@@ -137,7 +137,7 @@ abbrev pub edge_of : ℕ → ℕ → List Num → ℕ → Edge
 edge_of line j v join = record { line = line; row = j; values = v; join = join }
 
 abbrev pub edge_scratch : ℕ → ℕ → Edge → List ℤ → List ℤ
-edge_scratch k volume e x = edge_record k volume e ++ former_numbers (some e) x
+edge_scratch k volume e x = edge_record k volume e ++ former_numbers (Some e) x
 
 -- ── what is known of the element before it: 1 for a line, 2 for an arc ──
 known-row : (r : ℕ) → equal_z (pos (suc r)) (pos 0) ≡ false
@@ -183,14 +183,14 @@ module _ (k volume : ℕ) (y : List ℤ) where
   -- its record, and behind it the wire's two
   put-edge : (line join : ℕ) (j : ℕ) (v : List Num) (o : Option Edge) → Filled j v → put_edge k volume line join j (read_row wire_table j v (before o)) ≡ edge_scratch k volume (edge_of line j v join) spelt₂
   unfolding wire_table
-  put-edge line join _ _ none no_line = refl
-  put-edge line join _ _ none no_arc = refl
-  put-edge line join _ _ none (a-line a b c d e) = refl
-  put-edge line join _ _ none (an_arc a b c d e f g) = refl
-  put-edge line join _ _ (some u) no_line = refl
-  put-edge line join _ _ (some u) no_arc = refl
-  put-edge line join _ _ (some u) (a-line a b c d e) = refl
-  put-edge line join _ _ (some u) (an_arc a b c d e f g) = refl
+  put-edge line join _ _ None no_line = refl
+  put-edge line join _ _ None no_arc = refl
+  put-edge line join _ _ None (a-line a b c d e) = refl
+  put-edge line join _ _ None (an_arc a b c d e f g) = refl
+  put-edge line join _ _ (Some u) no_line = refl
+  put-edge line join _ _ (Some u) no_arc = refl
+  put-edge line join _ _ (Some u) (a-line a b c d e) = refl
+  put-edge line join _ _ (Some u) (an_arc a b c d e f g) = refl
 
   -- how it is joined: by what is known of the one before it
   abbrev Unjoined : Type 0
@@ -202,14 +202,14 @@ module _ (k volume : ℕ) (y : List ℤ) where
   read_join z false _ _ o no_arc = refl
   read_join z false _ _ o (a-line a b c d e) = refl
   read_join z false _ _ o (an_arc a b c d e f g) = refl
-  read_join z true _ _ none no_line = unjoined z _
-  read_join z true _ _ none no_arc = unjoined z _
-  read_join z true _ _ none (a-line a b c d e) = unjoined z _
-  read_join z true _ _ none (an_arc a b c d e f g) = unjoined z _
-  read_join z true _ _ (some u) no_line = join_by u.row true
-  read_join z true _ _ (some u) no_arc = join_by u.row false
-  read_join z true _ _ (some u) (a-line a b c d e) = join_by u.row true
-  read_join z true _ _ (some u) (an_arc a b c d e f g) = join_by u.row false
+  read_join z true _ _ None no_line = unjoined z _
+  read_join z true _ _ None no_arc = unjoined z _
+  read_join z true _ _ None (a-line a b c d e) = unjoined z _
+  read_join z true _ _ None (an_arc a b c d e f g) = unjoined z _
+  read_join z true _ _ (Some u) no_line = join_by u.row true
+  read_join z true _ _ (Some u) no_arc = join_by u.row false
+  read_join z true _ _ (Some u) (a-line a b c d e) = join_by u.row true
+  read_join z true _ _ (Some u) (an_arc a b c d e f g) = join_by u.row false
 
   -- .. and whether they meet
   read-holds : Unjoined → (ends : Bool) (j : ℕ) (v : List Num) (o : Option Edge) → Filled j v → join_holds ends j (read_row wire_table j v (before o)) ≡ joined ends o j v
@@ -218,14 +218,14 @@ module _ (k volume : ℕ) (y : List ℤ) where
   read-holds z false _ _ o no_arc = refl
   read-holds z false _ _ o (a-line a b c d e) = refl
   read-holds z false _ _ o (an_arc a b c d e f g) = refl
-  read-holds z true _ _ none no_line = unmet z _ _
-  read-holds z true _ _ none no_arc = unmet z _ _
-  read-holds z true _ _ none (a-line a b c d e) = unmet z _ _
-  read-holds z true _ _ none (an_arc a b c d e f g) = unmet z _ _
-  read-holds z true _ _ (some u) no_line = lines_meet u.row (meets u.values [])
-  read-holds z true _ _ (some u) no_arc = arc-meets u.row _ _
-  read-holds z true _ _ (some u) (a-line a b c d e) = lines_meet u.row (meets u.values (a ∷ b ∷ c ∷ d ∷ e ∷ []))
-  read-holds z true _ _ (some u) (an_arc a b c d e f g) = arc-meets u.row _ _
+  read-holds z true _ _ None no_line = unmet z _ _
+  read-holds z true _ _ None no_arc = unmet z _ _
+  read-holds z true _ _ None (a-line a b c d e) = unmet z _ _
+  read-holds z true _ _ None (an_arc a b c d e f g) = unmet z _ _
+  read-holds z true _ _ (Some u) no_line = lines_meet u.row (meets u.values [])
+  read-holds z true _ _ (Some u) no_arc = arc-meets u.row _ _
+  read-holds z true _ _ (Some u) (a-line a b c d e) = lines_meet u.row (meets u.values (a ∷ b ∷ c ∷ d ∷ e ∷ []))
+  read-holds z true _ _ (Some u) (an_arc a b c d e f g) = arc-meets u.row _ _
 
 -- ── as the code says it ──
 -- x: the wire's two numbers, of which that of the last element's row is 0

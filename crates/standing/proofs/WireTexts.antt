@@ -1,8 +1,8 @@
 -- A line in the text of a wire that is read: from the code's answer to the step that the definitions make.
+use Rattle.std.specs.Prelude.{Some}
 use Prim.Native.Nat.{ℕ, ◌≤◌}
 use mathlib.Core.Bool.{Bool, true}
 use mathlib.Core.List.{List, [], ◌∷◌, ◌++◌}
-use mathlib.Core.Option.{some}
 use mathlib.Core.Path.{◌≡◌, refl, sym, ◌∙◌, ap, subst}
 use native.Mathlib.Omega.{arith}
 use lib.IntN.{ℤ}
@@ -125,7 +125,7 @@ module _ (c : Class) (spool : List ℕ) (k : ℕ) (FileHere : Desk → Set → �
     on-entry : (j : ℕ) (v : Value) → did ≡ entry j v → i₁ ≡ set d.inner j true → t₁ ≡ text_read j v d.scratch → Out (S.Go d.now)
     on-entry j v a i q =
         let taken : Taken wire_text_table (rows_there written) j v = entry-taken (known_of s) wire_text_table (digits 0 0) (rows_there written) l.form j v a in
-        let wire' : Wire = with_texts wire.texts (set written j (some v)) wire in
+        let wire' : Wire = with_texts wire.texts (set written j (Some v)) wire in
         let st' : State = placing s m fs n (wire_block wire') 1 in
         let long : length (writing_record wire) ≡ 32 = writing-long wire in
         let put : t₁ ≡ writing_record wire' ++ two =
@@ -151,7 +151,7 @@ module _ (c : Class) (spool : List ℕ) (k : ℕ) (FileHere : Desk → Set → �
             repeats = inr.repeats;
             groups = inr.groups;
             shut = λ e. absurd (omega (arith, e));
-            writes = λ e. (refl, length-set written j (some v) ∙ (inr.writes refl).1, i ∙ ap (λ (b : List Bool). set b j true) (inr.writes refl).2 ∙ sym (marks-set written j v));
+            writes = λ e. (refl, length-set written j (Some v) ∙ (inr.writes refl).1, i ∙ ap (λ (b : List Bool). set b j true) (inr.writes refl).2 ∙ sym (marks-set written j v));
           },
         ))
 

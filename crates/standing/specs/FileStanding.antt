@@ -1,6 +1,5 @@
 -- In FILE_FORMAT: what the code remembers of it. Its numbers are kept apart from the table till it closes.
-use Rattle.std.specs.Prelude.{ℕ, ◌<◌, Bool, true, false, ◌≡◌, List, [], ◌++◌, map, ℤ, length, get_or, take}
-use Rattle.std.proofs.Math.Option.{Option, none, some}
+use Rattle.std.specs.Prelude.{ℕ, ◌<◌, Bool, true, false, ◌≡◌, List, [], ◌++◌, map, ℤ, length, get_or, take, Option, Some, None}
 use Rattle.rules.specs.Lines.{span, bytes_at}
 use Rattle.rules.specs.Values.{Value, empty, nums, chars, linked, chars_of, capital}
 use Rattle.rules.specs.Rows.{Held, part_of, rows_there, slot_value, held, number_of}
@@ -22,11 +21,11 @@ file_head false k n = start kind_volume 0 k n
 
 -- a row of one number holds numbers, or nothing
 abbrev pub is_numbers : Option Value → Bool
-is_numbers none = true
-is_numbers (some empty) = true
-is_numbers (some (nums v)) = true
-is_numbers (some (chars at c)) = false
-is_numbers (some (linked n ps)) = false
+is_numbers None = true
+is_numbers (Some empty) = true
+is_numbers (Some (nums v)) = true
+is_numbers (Some (chars at c)) = false
+is_numbers (Some (linked n ps)) = false
 
 -- FILE_FORMAT of volume k, at line n, holds h so far, and part p of it is open
 pub record InFile (spool : List ℕ) (k : ℕ) (d : Desk) (s : Set) (n : ℕ) (h : Held) (p : ℕ) : Type 0 where
@@ -44,5 +43,5 @@ pub record InFile (spool : List ℕ) (k : ℕ) (d : Desk) (s : Set) (n : ℕ) (h
   pub date : is_first s ≡ false → count_at d.header 68 ≡ number_of "date" later_table (part_of h 0)
   pub time : is_first s ≡ false → count_at d.header 69 ≡ number_of "time" later_table (part_of h 0)
   pub wires : is_first s ≡ true → count_at d.header header_wire_range ≡ number_of "E_wire" elec_table (part_of h 3)
-  pub counted : (q j : ℕ) → columns (rule_at (get_or (file_tables (is_first s)) q []) j).holds ≡ 1 → is_numbers (get_or (part_of h q) j none) ≡ true
-  pub unnamed : held "next_file" (own_table (is_first s)) (part_of h 0) ≡ none → count_at d.header 65 ≡ 0  -- an empty next_file takes its length from there
+  pub counted : (q j : ℕ) → columns (rule_at (get_or (file_tables (is_first s)) q []) j).holds ≡ 1 → is_numbers (get_or (part_of h q) j None) ≡ true
+  pub unnamed : held "next_file" (own_table (is_first s)) (part_of h 0) ≡ None → count_at d.header 65 ≡ 0  -- an empty next_file takes its length from there

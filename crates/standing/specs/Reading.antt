@@ -1,5 +1,5 @@
 -- What the reading of a line and of a volume promises.
-use Rattle.std.specs.Prelude.{ℕ, ◌+◌, ◌*◌, ◌/◌, ◌≤◌, ◌<◌, Bool, true, false, cond, eqb, ◌≡◌, List, ◌++◌, ℤ, pos, length, get_or, set, replicate}
+use Rattle.std.specs.Prelude.{ℕ, ◌+◌, ◌*◌, ◌/◌, ◌≤◌, ◌<◌, Bool, true, false, cond, eqb, ◌≡◌, List, ◌++◌, ℤ, pos, length, get_or, set, replicate, Result, Ok, Err}
 use Rattle.rules.specs.declared.Class.{Class}
 use Rattle.rules.specs.declared.LineForm.{LineForm}
 use Rattle.rules.specs.Base.{flat, is_nil}
@@ -13,8 +13,6 @@ use Rattle.account.specs.declared.Step.{Step}
 use Rattle.account.specs.declared.Step.TheVariants as S
 use Rattle.account.specs.declared.Volume.{Volume}
 use Rattle.account.specs.declared.Pos.{Pos}
-use Rattle.account.specs.declared.Through.{Through}
-use Rattle.account.specs.declared.Through.TheVariants as T
 use Rattle.account.specs.Walk.{end_of, At}
 use Rattle.rules.specs.RecordTable.{width}
 use Rattle.account.specs.declared.Now.{Now}
@@ -25,6 +23,7 @@ use Rattle.account.specs.SymbolLines.{name_of, name_number}
 use Rattle.standing.specs.FileStanding.{InFile}
 use Rattle.rules.specs.Blocks.{most_layers}
 use Rattle.account.specs.Numbering.{block_defines, block_elements, tally_elements_here, tally_symbols, rows_text, most_rows, header_length, scratch_length}
+use Rattle.rules.specs.declared.Refusal.{Refusal}
 
 -- the desk stands at the state st of a reading of volume k, behind the place `at`
 abbrev pub Standing : Class → List ℕ → ℕ → Desk → ℕ → State → Type 0
@@ -81,12 +80,12 @@ symbols_named t rec symbols (S.Skip n) = symbols
 symbols_named t rec symbols (S.Stop m) = symbols
 
 -- ── a volume ──
-abbrev pub stop_of : Volume → ℕ → ℕ → Through
-stop_of v n line = T.Stop (record { number = n; volume = v.number; line = line })
+abbrev pub stop_of : Volume → ℕ → ℕ → Result Now Refusal
+stop_of v n line = Err (record { number = n; volume = v.number; line = line })
 
 -- its last line was read
-abbrev pub through_of : Volume → ℕ → Step → Through
-through_of v line (S.Go n) = T.Go n
+abbrev pub through_of : Volume → ℕ → Step → Result Now Refusal
+through_of v line (S.Go n) = Ok n
 through_of v line (S.Skip n) = stop_of v 9 line
 through_of v line (S.Stop k) = stop_of v k line
 
@@ -124,14 +123,14 @@ pub record VolumeReady (c : Class) (spool body : List ℕ) (v : Volume) (limit :
   pub countable : limit + 2 ≤ 18446744073709551615
 
 -- the volume read to its end, or the refusal
-abbrev pub VolumeOut : Class → List ℕ → List ℕ → Volume → Bool → ℕ → State → List Line → List Line → (Now → Desk) → List ℤ → Through → Type 0
-VolumeOut c spool body v last limit st lines more d table (T.Go n) =
+abbrev pub VolumeOut : Class → List ℕ → List ℕ → Volume → Bool → ℕ → State → List Line → List Line → (Now → Desk) → List ℤ → Result Now Refusal → Type 0
+VolumeOut c spool body v last limit st lines more d table (Ok n) =
     (s : Set) × (run (limited_to c limit) st (lines ++ more) ≡ run (limited_to c limit) (next_state last s) more)
     × Standing c spool (next_number last v.number) (d n) (end_of body v) (next_state last s) × Kept c limit table n.records (next_state last s)
-VolumeOut c spool body v last limit st lines more d table (T.Stop f) = run (limited_to c limit) st (lines ++ more) ≡ refused f.number f.volume f.line
+VolumeOut c spool body v last limit st lines more d table (Err f) = run (limited_to c limit) st (lines ++ more) ≡ refused f.number f.volume f.line
 
 -- d₀: what is lent; d₁: what comes back of it, with what is open then
-abbrev pub VolumePromise : Class → List ℕ → List ℕ → Volume → ℕ → List ℕ → Desk → List ℤ → (Now → Desk) → List ℤ → Through → Type 0
+abbrev pub VolumePromise : Class → List ℕ → List ℕ → Volume → ℕ → List ℕ → Desk → List ℤ → (Now → Desk) → List ℤ → Result Now Refusal → Type 0
 VolumePromise c spool body v limit following d₀ table₀ d₁ table₁ r =
     (s : Set) (lines : List (List ℕ)) (more : List Line) → At spool body v (start_of v.at) lines → Standing c spool v.number d₀ v.at (top s 0)
     → Kept c limit table₀ d₀.now.records (top s 0)

@@ -1,6 +1,5 @@
 -- The records of each part of a set that is being read: of what is closed, and of the blocks that are open, as far as they are.
-use Rattle.std.specs.Prelude.{ℕ, zero, suc, ◌+◌, Bool, true, false, List, [], ◌∷◌, ◌++◌, ℤ, pos, length, replicate, set}
-use Rattle.std.proofs.Math.Option.{Option, none, some}
+use Rattle.std.specs.Prelude.{ℕ, zero, suc, ◌+◌, Bool, true, false, List, [], ◌∷◌, ◌++◌, ℤ, pos, length, replicate, set, Option, Some, None}
 use Rattle.std.proofs.lemmas.List.Edits.{sets}
 use Rattle.rules.specs.declared.Class.{Class}
 use Rattle.rules.specs.Blocks.{symbol_table}
@@ -66,8 +65,8 @@ chain_so_far s h n ps = sets (start (kind_successive + home_more h) (home_owner 
 -- The numbers of an open wire's two records: in places that are 0 when they are complete, what the next element must know of the last one
 -- (`WireLines: former_kept`).
 abbrev pub former_numbers : Option Edge → List ℤ → List ℤ
-former_numbers none t = t
-former_numbers (some e) t = set (set (set t 4 (value_at e.values 3)) (width + 4) (value_at e.values 4)) (width + 30) (pos (suc e.row))
+former_numbers None t = t
+former_numbers (Some e) t = set (set (set t 4 (value_at e.values 3)) (width + 4) (value_at e.values 4)) (width + 30) (pos (suc e.row))
 
 -- what was read of it: the rows that stand once, the texts, the keys that repeat
 abbrev pub wire_read : Wire → List ℤ → List ℤ

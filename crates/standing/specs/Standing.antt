@@ -1,7 +1,6 @@
 -- What the code remembers of a reading, and what it is worth: how the numbers and marks between two lines stand to the state that the
 -- definitions are in.
-use Rattle.std.specs.Prelude.{ℕ, zero, suc, ◌+◌, ◌*◌, ◌≤◌, ◌<◌, Bool, true, false, cond, ◌&&◌, ◌≡◌, List, [], ◌∷◌, ◌++◌, map, ℤ, length, get_or, take, drop, replicate}
-use Rattle.std.proofs.Math.Option.{Option, none, some}
+use Rattle.std.specs.Prelude.{ℕ, zero, suc, ◌+◌, ◌*◌, ◌≤◌, ◌<◌, Bool, true, false, cond, ◌&&◌, ◌≡◌, List, [], ◌∷◌, ◌++◌, map, ℤ, length, get_or, take, drop, replicate, Option, Some, None}
 use Rattle.rules.specs.declared.Class.{Class}
 use Rattle.rules.specs.RangeClass.{most_depth}
 use Rattle.rules.specs.Base.{all, flat, total, has_number, is_none, is_some}
@@ -98,8 +97,8 @@ layers_of (ended s) = s.drawing.layers
 
 -- the serial numbers read so far, in the order written: of each symbol or wire that has them, its own number and its partners
 abbrev pub wire_links : Option Value → List (List ℕ)
-wire_links none = []
-wire_links (some v) = (amount_at v 0 ∷ wire_partners v) ∷ []
+wire_links None = []
+wire_links (Some v) = (amount_at v 0 ∷ wire_partners v) ∷ []
 
 abbrev pub symbol_links : List ℕ → List (List ℕ)
 symbol_links [] = []
@@ -110,7 +109,7 @@ figure_links (plain n j v) = []
 figure_links (chain n ps) = []
 figure_links (lettering n s) = []
 figure_links (placed n h) = symbol_links (serials_of (slot_value (held "serial" placed_table (part_of h 0))))
-figure_links (wired n w) = wire_links (get_or w.own wire_serial_row none)
+figure_links (wired n w) = wire_links (get_or w.own wire_serial_row None)
 figure_links (passed n) = []
 
 abbrev pub links_of_block : LayerBlock → List (List ℕ)
@@ -295,7 +294,7 @@ row_bytes n o = cond (is_some o) n 0
 -- of a symbol that is open: `E_symbol:{`, its name's line, and so many of `element` and of `hide`, where they were read
 abbrev pub symbol_with : ℕ → ℕ → Symbol → ℕ
 symbol_with element hidden y =
-    12 + row_bytes 8 (get_or y.own 0 none) + row_bytes element (get_or y.own 1 none) + row_bytes hidden (get_or y.own 2 none)
+    12 + row_bytes 8 (get_or y.own 0 None) + row_bytes element (get_or y.own 1 None) + row_bytes hidden (get_or y.own 2 None)
 
 -- `element:{` and `hide:{` with their ends (what they hold is not counted); the one that is open lacks its end
 abbrev pub symbol_bytes : Symbol → ℕ
@@ -331,8 +330,8 @@ abbrev pub due_of : ℕ → Option Value → ℕ
 due_of opener o = cond (is_some o) 0 (3 + opener)
 
 abbrev pub owned_bytes : Owned → ℕ
-owned_bytes (symbol_block o) = due_of 12 (get_or (part_of o 0) 5 none)
-owned_bytes (wire_block w) = due_of 10 (get_or w.own wire_serial_row none)
+owned_bytes (symbol_block o) = due_of 12 (get_or (part_of o 0) 5 None)
+owned_bytes (wire_block w) = due_of 10 (get_or w.own wire_serial_row None)
 owned_bytes wire_unread = 3
 
 abbrev pub serial_bytes : State → ℕ
@@ -372,19 +371,19 @@ TopPhase k s (suc (suc (suc (suc m)))) = (k ≡ length s.volumes) × (m ≡ 0) �
 
 -- a text's bytes are where its value says
 abbrev pub CharsHere : List ℕ → Option Value → Type 0
-CharsHere spool none = Unit {0}
-CharsHere spool (some empty) = Unit {0}
-CharsHere spool (some (nums v)) = Unit {0}
-CharsHere spool (some (chars at c)) = (c ≡ bytes_at spool (span at (length c))) × (at < 65536) × (length c < 65536)
-CharsHere spool (some (linked n ps)) = Unit {0}
+CharsHere spool None = Unit {0}
+CharsHere spool (Some empty) = Unit {0}
+CharsHere spool (Some (nums v)) = Unit {0}
+CharsHere spool (Some (chars at c)) = (c ≡ bytes_at spool (span at (length c))) × (at < 65536) × (length c < 65536)
+CharsHere spool (Some (linked n ps)) = Unit {0}
 
 -- a text, or nothing yet
 abbrev pub is_text : Option Value → Bool
-is_text none = true
-is_text (some empty) = false
-is_text (some (nums v)) = false
-is_text (some (chars at c)) = true
-is_text (some (linked n ps)) = false
+is_text None = true
+is_text (Some empty) = false
+is_text (Some (nums v)) = false
+is_text (Some (chars at c)) = true
+is_text (Some (linked n ps)) = false
 
 -- how far a wire that is read is, as the code remembers it
 abbrev pub part_in : ℕ → Bool → ℕ
@@ -401,15 +400,15 @@ module _ (spool : List ℕ) (k : ℕ) (n : Now) (ms is : List Bool) where
     pub slots : length y.own ≡ 4
     pub marked : take 4 ms ≡ rows_there y.own
     pub fresh : new_name s y ≡ true
-    pub name : CharsHere spool (get_or y.own 0 none)
-    pub is-text : is_text (get_or y.own 0 none) ≡ true
-    pub element-first : is_none (get_or y.own 1 none) ≡ true → (y.figures ≡ []) × (y.hide_first ≡ false → y.hidden ≡ [])
-    pub hide-first : is_none (get_or y.own 2 none) ≡ true → y.hidden ≡ []
+    pub name : CharsHere spool (get_or y.own 0 None)
+    pub is-text : is_text (get_or y.own 0 None) ≡ true
+    pub element-first : is_none (get_or y.own 1 None) ≡ true → (y.figures ≡ []) × (y.hide_first ≡ false → y.hidden ≡ [])
+    pub hide-first : is_none (get_or y.own 2 None) ≡ true → y.hidden ≡ []
 
   -- where the figures stand
   abbrev pub InHome : Set → Home → Type 0
   InHome s (in_element y) =
-      InSymbol s y × (n.layered ≡ false) × (y.figures ≡ []) × (y.hide_first ≡ false → y.hidden ≡ []) × (is_none (get_or y.own 1 none) ≡ false)
+      InSymbol s y × (n.layered ≡ false) × (y.figures ≡ []) × (y.hide_first ≡ false → y.hidden ≡ []) × (is_none (get_or y.own 1 None) ≡ false)
   InHome s (in_layer m) = (k ≡ volume_of s) × (n.layered ≡ true) × (n.owner ≡ m) × (m < most_layers)
 
   pub record InDrawing (s : Set) (w : Drawing) : Type 0 where
@@ -430,8 +429,8 @@ module _ (spool : List ℕ) (k : ℕ) (n : Now) (ms is : List Bool) where
     pub few : length ps ≤ 100
     pub hidden : y.hidden ≡ []
     pub shown : y.hide_first ≡ true → y.figures ≡ []
-    pub ordered : y.hide_first ≡ is_none (get_or y.own 1 none)  -- its `hide` comes first where no `element` was read
-    pub entered : is_none (get_or y.own 2 none) ≡ false  -- and it has been read
+    pub ordered : y.hide_first ≡ is_none (get_or y.own 1 None)  -- its `hide` comes first where no `element` was read
+    pub entered : is_none (get_or y.own 2 None) ≡ false  -- and it has been read
 
   pub record InPlaced (s : Set) (m : ℕ) (fs : List Figure) (o : Held) (p : ℕ) : Type 0 where
     pub home : InHome s (in_layer m)
@@ -441,8 +440,8 @@ module _ (spool : List ℕ) (k : ℕ) (n : Now) (ms is : List Bool) where
     pub shaped : Shaped 0 placed_tables o
     pub marked : take 6 ms ≡ rows_there (part_of o 0)
     pub inner : p ≡ 1 → is ≡ rows_there (part_of o 1)
-    pub unopened : is_none (get_or (part_of o 0) 1 none) ≡ true → part_of o 1 ≡ blank (text_table true 16 24)
-    pub opened : p ≡ 1 → is_none (get_or (part_of o 0) 1 none) ≡ false
+    pub unopened : is_none (get_or (part_of o 0) 1 None) ≡ true → part_of o 1 ≡ blank (text_table true 16 24)
+    pub opened : p ≡ 1 → is_none (get_or (part_of o 0) 1 None) ≡ false
 
   -- a wire: how far it is, and how many elements it has or how many skipped blocks are open in it
   pub record InWire (s : Set) (m : ℕ) (fs : List Figure) (far many : ℕ) : Type 0 where
@@ -457,7 +456,7 @@ module _ (spool : List ℕ) (k : ℕ) (n : Now) (ms is : List Bool) where
     pub parts : p ≤ 1
     pub slots : length w.own ≡ rows_wire
     pub marked : take rows_wire ms ≡ rows_there w.own
-    pub repeats : take (suc wire_text_row) w.own ≡ replicate (suc wire_text_row) none  -- the rows that repeat are not among those that stand once
+    pub repeats : take (suc wire_text_row) w.own ≡ replicate (suc wire_text_row) None  -- the rows that repeat are not among those that stand once
     pub groups : length w.groups ≡ length shelves
     pub shut : p ≡ 0 → w.writing ≡ []
     pub writes : p ≡ 1 → (w.past ≡ true) × (length w.writing ≡ rows_text) × (is ≡ rows_there w.writing)

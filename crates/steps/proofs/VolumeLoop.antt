@@ -1,4 +1,5 @@
 -- A volume read line by line: the loop's invariant, and what the code's answers make of it.
+use Rattle.std.specs.Prelude.{Option, None, Ok, Err}
 use Prim.Native.Nat.{ℕ, ◌+◌, ◌≤◌}
 use mathlib.Core.Bool.{Bool, true, false, cond, ◌||◌}
 use mathlib.Core.List.{List, [], ◌∷◌, ◌++◌}
@@ -18,16 +19,12 @@ use Rattle.rules.specs.Answers.{lines_of_volume}
 use Rattle.rules.proofs.Chains.{clash}
 use Rattle.lines.specs.LineLook.{look_in}
 use Rattle.lines.specs.declared.Seen.{Seen as SeenLine}
-use Rattle.lines.specs.declared.Look.{Look}
-use Rattle.lines.specs.declared.Look.TheVariants as K
 use Rattle.lines.proofs.LinesSeen.{look_none}
 use Rattle.account.specs.declared.Now.{Now}
 use Rattle.account.specs.declared.Step.{Step}
 use Rattle.account.specs.declared.Step.TheVariants as S
 use Rattle.account.specs.declared.Volume.{Volume}
 use Rattle.account.specs.declared.Pos.{Pos}
-use Rattle.account.specs.declared.Left.TheVariants as L
-use Rattle.account.specs.declared.Through.TheVariants as T
 use Rattle.account.specs.Putting.{within_limit, completed, number_for, put_by, cleared_by, own_after}
 use Rattle.account.specs.Walk.{seen_or, seen_from, end_of, At, todo, Next}
 use Rattle.account.specs.SkippedLines.{Low, SkipReady, SkipMet}
@@ -39,6 +36,7 @@ use Rattle.account.proofs.Walked.{next-seen}
 use Rattle.account.proofs.SeenLines.{past, seen_line, low-past}
 use Rattle.steps.proofs.VolumeEnds.{LastOut}
 use Rattle.steps.proofs.VolumeRun.{stands-later, stands-between, Gone, where_of, line-here, line_formed, passed, todo-on, refused-at, gone-on, stopped, skipped-on, skip-stopped, last, to-more}
+use Rattle.lines.specs.declared.Seen.{Seen}
 
 -- what a volume gives back of what it was lent
 abbrev pub back_desk : Desk → Now → Desk
@@ -81,8 +79,8 @@ module _ (c : Class) (spool body : List ℕ) (v : Volume) (following : List ℕ)
   none-next : (p : Pos) (lines : List (List ℕ)) → At spool body v (start_of v.at) lines → is_nil lines ≡ true → p ≡ start_of v.at → (seen_from body v p).next ≡ p.at
   none-next p lines a h e =
       let n : lines ≡ [] = nil lines h in
-      let l : look_in v.number 1 v.at v.at body ≡ K.End = look_none v.number 1 v.at v.at spool body lines a.part a.short a.begun a.here a.lines n in
-      subst (λ (y : Pos). (seen_from body v y).next ≡ y.at) (sym e) (ap (λ (y : Look). (seen_or v.at y).next) (ap (λ (m : ℕ). look_in v.number m v.at v.at body) one ∙ l))
+      let l : look_in v.number 1 v.at v.at body ≡ None = look_none v.number 1 v.at v.at spool body lines a.part a.short a.begun a.here a.lines n in
+      subst (λ (y : Pos). (seen_from body v y).next ≡ y.at) (sym e) (ap (λ (y : Option Seen). (seen_or v.at y).next) (ap (λ (m : ℕ). look_in v.number m v.at v.at body) one ∙ l))
     where
       one : 0 + 1 ≡ 1
       one = refl
@@ -169,7 +167,7 @@ module _ (c : Class) (spool body : List ℕ) (v : Volume) (following : List ℕ)
           pub skip_ready : SkipReady (past p f) 4
           skip_ready = record { low = low-past body v p f q h i.low; one = omega arith; four = omega arith }
 
-          pub on_skip : (n : Now) → r ≡ S.Skip n → (q' : Pos) → SkipMet spool body v (past p f) 4 (L.Go q') → Through-to q' (desk_now d₁ n) own table
+          pub on_skip : (n : Now) → r ≡ S.Skip n → (q' : Pos) → SkipMet spool body v (past p f) 4 (Ok q') → Through-to q' (desk_now d₁ n) own table
           on_skip n a q' m = record {
             low = m.further.0;
             going = λ s lines more o z x y. skipped-on c spool body v following limit (top s 0) (start_of v.at) lines more p d own table (gone s lines more o z x) f q d₁ answer promise h n a q' m;
@@ -177,8 +175,8 @@ module _ (c : Class) (spool body : List ℕ) (v : Volume) (following : List ℕ)
             few = i.few;
           }
 
-          pub ends_skip : (n : Now) → r ≡ S.Skip n → (x : Refusal) → SkipMet spool body v (past p f) 4 (L.Stop x) → (d₂ : Now → Desk) (table₂ : List ℤ)
-              → VolumePromise c spool body v limit following d₀ table₀ d₂ table₂ (T.Stop x)
+          pub ends_skip : (n : Now) → r ≡ S.Skip n → (x : Refusal) → SkipMet spool body v (past p f) 4 (Err x) → (d₂ : Now → Desk) (table₂ : List ℤ)
+              → VolumePromise c spool body v limit following d₀ table₀ d₂ table₂ (Err x)
           ends_skip n a x m d₂ table₂ s lines more o z y =
               ap (run (limited_to c limit) (top s 0)) (lines-todo lines more (some-lines lines o))
               ∙ skip-stopped c spool body v following limit (top s 0) (start_of v.at) lines more p d own table (gone s lines more o z y) f q d₁ answer promise h n a x m

@@ -1,4 +1,5 @@
 -- The turns of the loop over a volume's lines, in the words of the code's variables.
+use Rattle.std.specs.Prelude.{Result, Ok, Err}
 use Prim.Native.Nat.{ℕ, ◌+◌, ◌<◌}
 use mathlib.Core.Bool.{Bool, true, false, ◌&&◌}
 use mathlib.Core.List.{List, [], ◌∷◌}
@@ -17,10 +18,6 @@ use Rattle.account.specs.declared.Step.{Step}
 use Rattle.account.specs.declared.Step.TheVariants as S
 use Rattle.account.specs.declared.Volume.{Volume}
 use Rattle.account.specs.declared.Pos.{Pos}
-use Rattle.account.specs.declared.Left.{Left}
-use Rattle.account.specs.declared.Left.TheVariants as L
-use Rattle.account.specs.declared.Through.{Through}
-use Rattle.account.specs.declared.Through.TheVariants as T
 use Rattle.account.specs.Putting.{within_limit, completed, number_for, put_by, cleared_by, own_after}
 use Rattle.account.specs.Walk.{seen_from}
 use Rattle.account.specs.SkippedLines.{Further, SkipReady, SkipMet}
@@ -53,7 +50,7 @@ pub own_on : (d₁ : Desk) (s : List ℤ) (n : Now) → OwnLengths d₁ → leng
 own_on d₁ s n o e = record { used = o.used; marks = o.marks; inner = o.inner; header = o.header; scratch = e ∙ o.scratch }
 
 -- behind a skipped block the reading is further
-pub skipped-further : (spool body : List ℕ) (v : Volume) (p q : Pos) (l : Left) → SkipMet spool body v p 4 l → l ≡ L.Go q → Further body v p (L.Go q)
+pub skipped-further : (spool body : List ℕ) (v : Volume) (p q : Pos) (l : Result Pos Refusal) → SkipMet spool body v p 4 l → l ≡ Ok q → Further body v p (Ok q)
 skipped-further spool body v p q l m a = subst (Further body v p) a m.further
 
 module _ (c : Class) (spool body : List ℕ) (v : Volume) (following : List ℕ) (limit : ℕ) (d₀ : Desk) (table₀ : List ℤ) where
@@ -75,7 +72,7 @@ module _ (c : Class) (spool body : List ℕ) (v : Volume) (following : List ℕ)
   }
 
   module _ (first last_volume : Bool) (p : Pos) (d : Desk) (own : ℕ) (table : List ℤ) (i : Turn p d own table first last_volume) (f : Seen) (q : f ≡ seen_from body v p) where
-    pub turn-empty : f.next ≡ p.at → (d₁ : Now → Desk) (table₁ : List ℤ) (r : Through) → r ≡ stop_of v 9 p.line → VolumePromise c spool body v limit following d₀ table₀ d₁ table₁ r
+    pub turn-empty : f.next ≡ p.at → (d₁ : Now → Desk) (table₁ : List ℤ) (r : Result Now Refusal) → r ≡ stop_of v 9 p.line → VolumePromise c spool body v limit following d₀ table₀ d₁ table₁ r
     turn-empty same d₁ table₁ r a =
         subst (VolumePromise c spool body v limit following d₀ table₀ d₁ table₁) (sym a) (ends-empty c spool body v following limit d₀ table₀ p d own table i.through f q same d₁ table₁)
 
@@ -116,7 +113,7 @@ module _ (c : Class) (spool body : List ℕ) (v : Volume) (following : List ℕ)
           pub turn-block : SkipReady (past p f) 4
           turn-block = skip_ready c spool body v following limit d₀ table₀ p d own table i.through f q apart d₁ answer judged h
 
-          pub turn_skip : (n : Now) → r ≡ S.Skip n → (l : Left) → SkipMet spool body v (past p f) 4 l → (q' : Pos) → l ≡ L.Go q' → SameLengths d₀ (desk_now d₁ n) table₀ table → OwnLengths (desk_now d₁ n)
+          pub turn_skip : (n : Now) → r ≡ S.Skip n → (l : Result Pos Refusal) → SkipMet spool body v (past p f) 4 l → (q' : Pos) → l ≡ Ok q' → SameLengths d₀ (desk_now d₁ n) table₀ table → OwnLengths (desk_now d₁ n)
               → Turn q' (desk_now d₁ n) own table first last_volume
           turn_skip n a l m q' b kept o = record {
             through = on_skip c spool body v following limit d₀ table₀ p d own table i.through f q apart d₁ answer judged h n (sym limited ∙ a) q' (subst (SkipMet spool body v (past p f) 4) b m);
@@ -126,17 +123,17 @@ module _ (c : Class) (spool body : List ℕ) (v : Volume) (following : List ℕ)
             is_last = i.is_last;
           }
 
-          pub turn-left : (n : Now) → r ≡ S.Skip n → (l : Left) → SkipMet spool body v (past p f) 4 l → (x : Refusal) → l ≡ L.Stop x → (d₂ : Now → Desk) (table₂ : List ℤ)
-              → VolumePromise c spool body v limit following d₀ table₀ d₂ table₂ (T.Stop x)
+          pub turn-left : (n : Now) → r ≡ S.Skip n → (l : Result Pos Refusal) → SkipMet spool body v (past p f) 4 l → (x : Refusal) → l ≡ Err x → (d₂ : Now → Desk) (table₂ : List ℤ)
+              → VolumePromise c spool body v limit following d₀ table₀ d₂ table₂ (Err x)
           turn-left n a l m x b d₂ table₂ =
               ends_skip c spool body v following limit d₀ table₀ p d own table i.through f q apart d₁ answer judged h n (sym limited ∙ a) x (subst (SkipMet spool body v (past p f) 4) b m) d₂ table₂
 
-          pub turn-stop : (n : ℕ) → r ≡ S.Stop n → (d₂ : Now → Desk) (table₂ : List ℤ) (t : Through) → t ≡ stop_of v n (p.line + 1) → VolumePromise c spool body v limit following d₀ table₀ d₂ table₂ t
+          pub turn-stop : (n : ℕ) → r ≡ S.Stop n → (d₂ : Now → Desk) (table₂ : List ℤ) (t : Result Now Refusal) → t ≡ stop_of v n (p.line + 1) → VolumePromise c spool body v limit following d₀ table₀ d₂ table₂ t
           turn-stop n a d₂ table₂ t b =
               subst (VolumePromise c spool body v limit following d₀ table₀ d₂ table₂) (sym b)
               (ends-stop c spool body v following limit d₀ table₀ p d own table i.through f q apart d₁ answer judged h n (sym limited ∙ a) d₂ table₂)
 
-        pub turn_last : f.last ≡ true → (complete : Bool) → complete ≡ completes_of d.now f.form last_volume → (done : Step) → done ≡ last_step complete r → (t : Through) → t ≡ through_of v (p.line + 1) done
+        pub turn_last : f.last ≡ true → (complete : Bool) → complete ≡ completes_of d.now f.form last_volume → (done : Step) → done ≡ last_step complete r → (t : Result Now Refusal) → t ≡ through_of v (p.line + 1) done
             → VolumePromise c spool body v limit following d₀ table₀ (back_desk d₁) table t
         turn_last h complete a done b t x =
             subst

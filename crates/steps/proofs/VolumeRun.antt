@@ -1,4 +1,5 @@
 -- A volume read line by line: how far the reading has come, and what one more line makes of it.
+use Rattle.std.specs.Prelude.{Ok, Err}
 use Prim.Native.Nat.{ℕ, ◌+◌, ◌≤◌}
 use mathlib.Core.Bool.{Bool, true, false, cond, ◌&&◌}
 use mathlib.Core.List.{List, [], ◌∷◌, append-nil}
@@ -27,7 +28,6 @@ use Rattle.account.specs.declared.Step.TheVariants as S
 use Rattle.account.specs.declared.Complete.TheVariants as C
 use Rattle.account.specs.declared.Volume.{Volume}
 use Rattle.account.specs.declared.Pos.{Pos}
-use Rattle.account.specs.declared.Left.TheVariants as L
 use Rattle.account.specs.Putting.{within_limit, completed, number_for, put_by, cleared_by, own_after}
 use Rattle.account.specs.Walk.{seen_from, At, todo, Next}
 use Rattle.account.specs.SkippedLines.{Skips, in_placed, in_wire, SkipMet}
@@ -267,7 +267,7 @@ module _ (c : Class) (spool body : List ℕ) (v : Volume) (following : List ℕ)
         stopped n a = todo-on ∙ step-refused env g.state l (todo v following (past p f) passed.others more) n h (subst Out a judged)
 
         -- a block was skipped
-        pub skipped-on : (n : Now) → r ≡ S.Skip n → (q' : Pos) → SkipMet spool body v (past p f) 4 (L.Go q') → Gone st₀ p₀ lines more q' (desk_now d₁ n) number table
+        pub skipped-on : (n : Now) → r ≡ S.Skip n → (q' : Pos) → SkipMet spool body v (past p f) 4 (Ok q') → Gone st₀ p₀ lines more q' (desk_now d₁ n) number table
         skipped-on n a q' m =
             let (x, did) = subst Out a judged in
             let w = m.met passed.others passed.at some_left in
@@ -287,7 +287,7 @@ module _ (c : Class) (spool body : List ℕ) (v : Volume) (following : List ℕ)
                   ∙ skipped-run spool body v (past p f) passed.others passed.at some_left q' m x.skips env following more;
             }
 
-        pub skip-stopped : (n : Now) → r ≡ S.Skip n → (y : Refusal) → SkipMet spool body v (past p f) 4 (L.Stop y) → run env st₀ (todo v following p₀ lines more) ≡ refused y.number y.volume y.line
+        pub skip-stopped : (n : Now) → r ≡ S.Skip n → (y : Refusal) → SkipMet spool body v (past p f) 4 (Err y) → run env st₀ (todo v following p₀ lines more) ≡ refused y.number y.volume y.line
         skip-stopped n a y m =
             let (x, did) = subst Out a judged in
             todo-on ∙ step-on env g.state l (todo v following (past p f) passed.others more) x.inside h did

@@ -5,8 +5,8 @@ ghost use Rattle.standing.specs.Reading.{through_of, stop_of, volume_desk, Volum
 
 use crate::line::step;
 use account::{
-    BLOCK_ELEMENTS, BLOCK_TOP, HEADER_LENGTH, Left, LineAt, MOST_LAYERS, MOST_ROWS, Now, Pos,
-    ROWS_TEXT, SCRATCH_LENGTH, Step, TURN_EOF, TURN_FILE, Through, Volume, Where,
+    BLOCK_ELEMENTS, BLOCK_TOP, HEADER_LENGTH, LineAt, MOST_LAYERS, MOST_ROWS, Now, Pos, ROWS_TEXT,
+    SCRATCH_LENGTH, Step, TURN_EOF, TURN_FILE, Volume, Where,
 };
 use elements::skip::skip_block;
 use groundwork::blocks::at_block;
@@ -116,10 +116,10 @@ fn at_last(complete: bool, did: Step) -> Step
     }
 }
 
-fn refused(v: Volume, number: u8, line: u32) -> Through
+fn refused(v: Volume, number: u8, line: u32) -> Result<Now, Refusal>
     ensures { result ≡ stop_of v number line }
 {
-    Through::Stop(Refusal {
+    Err(Refusal {
         number: number,
         volume: v.number,
         line: line,
@@ -127,11 +127,11 @@ fn refused(v: Volume, number: u8, line: u32) -> Through
 }
 
 // A volume's last line was read.
-fn closed(v: Volume, line: u32, did: Step) -> Through
+fn closed(v: Volume, line: u32, did: Step) -> Result<Now, Refusal>
     ensures { result ≡ through_of v line did }
 {
     match did {
-        Step::Go(n) => Through::Go(n),
+        Step::Go(n) => Ok(n),
         Step::Skip(_) => refused(v, 9, line),
         Step::Stop(k) => refused(v, k, line),
     }
@@ -157,7 +157,7 @@ pub fn read_volume(
     used_all: &mut [bool],
     limit: usize,
     t: &mut [i64],
-) -> Through
+) -> Result<Now, Refusal>
     requires { VolumeReady class s.now body.now v limit (volume_desk begin tally.old symbols.old layers.old serials.old used_all.old) t.old }
     ensures { VolumePromise class s.now body.now v limit following.now (volume_desk begin tally.old symbols.old layers.old serials.old used_all.old) t.old (λ n. volume_desk n tally.new symbols.new layers.new serials.new used_all.new) t.new result }
 {
@@ -220,12 +220,12 @@ pub fn read_volume(
                 here = n;
                 let left = skip_block(s, body, v, Pos { at: at, line: line }, SKIPPED_DEPTH);
                 match left {
-                    Left::Go(q) => {
+                    Ok(q) => {
                         at = q.at;
                         line = q.line;
                     }
-                    Left::Stop(f) => {
-                        return Through::Stop(f);
+                    Err(f) => {
+                        return Err(f);
                     }
                 }
             }

@@ -1,5 +1,5 @@
 -- What the numbers of a row in the code stand for.
-use Rattle.std.specs.Prelude.{ℕ, zero, suc, ◌/◌, ◌%◌, Bool, true, false, cond, List, [], ◌∷◌, eqb, ltb, get_or}
+use Rattle.std.specs.Prelude.{ℕ, zero, suc, ◌/◌, ◌%◌, Bool, true, false, cond, List, [], ◌∷◌, eqb, ltb, get_or, Option, Some, None}
 use Rattle.rules.specs.RangeClass.{digits}
 use Rattle.rules.specs.Values.{Part, count, digit, type_digits, range, range_of_symbols, range_of_wires, day, clock, decimal, exactly, whole_turn, Bound, any_sign, not_negative, above_zero, angle}
 use Rattle.rules.specs.Values.{half_turn, symbol_name, layer_id, Across, nothing_more, ends_differ, arc_of_circle, axes_of_ellipse, served_power, Kind, values, text, word}
@@ -8,8 +8,6 @@ use Rattle.rules.specs.Rows.{Times, once, up_to, any_number, Rule, Found, absent
 use Rattle.leaves.specs.Bytes.{bytes_of}
 use Rattle.leaves.specs.Texts.{text_rules, no_text}
 use Rattle.tables.specs.declared.Row.{Row}
-use Rattle.tables.specs.declared.Found.{Found as Finding}
-use Rattle.tables.specs.declared.Found.TheVariants as F
 use Rattle.tables.specs.Numbering.{part_sign, part_digit, part_flag, part_position, part_count, part_day, part_clock, part_range0, part_range01, part_range02, part_range1}
 use Rattle.tables.specs.Numbering.{part_symbol_range, part_symbol_name, part_layer_id, part_wire_range, part_any_sign, part_not_negative, part_above_zero, part_half_turn}
 use Rattle.tables.specs.Numbering.{part_no_angle, part_whole_turn, arc_forms, holds_circle}
@@ -92,9 +90,9 @@ kind_of r =
 abbrev pub rule_of : Row → Rule
 rule_of r = record { key = []; holds = kind_of r; may = r.may; least = r.least; must = false; times = times_of r.times; place = r.place; state = r.state }
 
-abbrev pub found_of : Finding → Found
-found_of F.Absent = absent
-found_of (F.Row r) = found r.number (rule_of r)
+abbrev pub found_of : Option Row → Found
+found_of None = absent
+found_of (Some r) = found r.number (rule_of r)
 
 -- a row that was found, without its key and whether it is required
 abbrev pub for_line : Rule → Rule

@@ -18,11 +18,11 @@ use crate::keys::{
 };
 use crate::rows::{free_text, from, inner, may_be_empty, plain, several, text, times, with_state};
 use crate::{
-    ACROSS_ARC, ACROSS_ENDS, ACROSS_POWER, Found, HOLDS_BLOCK, HOLDS_EITHER, HOLDS_HEADED,
-    HOLDS_NOTHING, HOLDS_RATIO, HOLDS_SERIALS, HOLDS_SHEET, HOLDS_VOLUME_NAME, HOLDS_WIRE_SERIAL,
-    HOLDS_WORD, PART_ANY_SIGN, PART_CLOCK, PART_COUNT, PART_DAY, PART_LAYER_ID, PART_NOT_NEGATIVE,
+    ACROSS_ARC, ACROSS_ENDS, ACROSS_POWER, HOLDS_BLOCK, HOLDS_EITHER, HOLDS_HEADED, HOLDS_NOTHING,
+    HOLDS_RATIO, HOLDS_SERIALS, HOLDS_SHEET, HOLDS_VOLUME_NAME, HOLDS_WIRE_SERIAL, HOLDS_WORD,
+    PART_ANY_SIGN, PART_CLOCK, PART_COUNT, PART_DAY, PART_LAYER_ID, PART_NOT_NEGATIVE,
     PART_POSITION, PART_RANGE_0, PART_RANGE_0_1, PART_RANGE_0_2, PART_RANGE_1, PART_SYMBOL_RANGE,
-    PART_WIRE_RANGE, TIMES_ANY,
+    PART_WIRE_RANGE, Row, TIMES_ANY,
 };
 
 // several forms, two digits each, the first one last: type,x,y and the like
@@ -71,272 +71,272 @@ const LETTERS_AND_DIGITS: u8 = 2;
 const CIRCUIT_BYTES: u8 = 4;
 
 // Outside all blocks; the order of the blocks is judged by the reader.
-pub(crate) fn top_row(k: &[u8]) -> Found
+pub(crate) fn top_row(k: &[u8]) -> Option<Row>
     ensures { found_for_line (find k.now top_table) ≡ found_of result }
 {
     if is_file_format(k) {
-        return Found::Row(times(inner(0, HOLDS_BLOCK, 0, 0, 0), TIMES_ANY));
+        return Some(times(inner(0, HOLDS_BLOCK, 0, 0, 0), TIMES_ANY));
     }
     if is_drawing_format(k) {
-        return Found::Row(times(inner(1, HOLDS_BLOCK, 0, 0, 0), TIMES_ANY));
+        return Some(times(inner(1, HOLDS_BLOCK, 0, 0, 0), TIMES_ANY));
     }
     if is_symbol_define(k) {
-        return Found::Row(times(inner(2, HOLDS_BLOCK, 0, 0, 0), TIMES_ANY));
+        return Some(times(inner(2, HOLDS_BLOCK, 0, 0, 0), TIMES_ANY));
     }
     if is_element_block(k) {
-        return Found::Row(times(inner(3, HOLDS_BLOCK, 0, 0, 0), TIMES_ANY));
+        return Some(times(inner(3, HOLDS_BLOCK, 0, 0, 0), TIMES_ANY));
     }
-    Found::Absent
+    None
 }
 
 // The eight texts of FILE_FORMAT.
-fn header_text_row(k: &[u8]) -> Found
+fn header_text_row(k: &[u8]) -> Option<Row>
     ensures { found_for_line (behind_eight (find k.now header_texts)) ≡ found_of result }
 {
     if is_cad(k) {
-        return Found::Row(free_text(8, CAD, 16));
+        return Some(free_text(8, CAD, 16));
     }
     if is_os(k) {
-        return Found::Row(free_text(9, OS, 18));
+        return Some(free_text(9, OS, 18));
     }
     if is_hard(k) {
-        return Found::Row(free_text(10, HARD, 20));
+        return Some(free_text(10, HARD, 20));
     }
     if is_ver(k) {
-        return Found::Row(free_text(11, VER, 22));
+        return Some(free_text(11, VER, 22));
     }
     if is_corp(k) {
-        return Found::Row(may_be_empty(free_text(12, CORP, 24)));
+        return Some(may_be_empty(free_text(12, CORP, 24)));
     }
     if is_make(k) {
-        return Found::Row(may_be_empty(free_text(13, MAKE, 26)));
+        return Some(may_be_empty(free_text(13, MAKE, 26)));
     }
     if is_tel(k) {
-        return Found::Row(may_be_empty(free_text(14, TEL, 28)));
+        return Some(may_be_empty(free_text(14, TEL, 28)));
     }
     if is_name(k) {
-        return Found::Row(may_be_empty(free_text(15, NAME, 30)));
+        return Some(may_be_empty(free_text(15, NAME, 30)));
     }
-    Found::Absent
+    None
 }
 
 // FILE_FORMAT of the first volume: its record and the volume's behind it.
-pub(crate) fn file_row(k: &[u8]) -> Found
+pub(crate) fn file_row(k: &[u8]) -> Option<Row>
     ensures { found_for_line (find k.now file_table) ≡ found_of result }
 {
     if is_range(k) {
-        return Found::Row(inner(0, HOLDS_BLOCK, 0, 1, 0));
+        return Some(inner(0, HOLDS_BLOCK, 0, 1, 0));
     }
     if is_all_line(k) {
-        return Found::Row(several(1, PART_COUNT, 0, 0, 12));
+        return Some(several(1, PART_COUNT, 0, 0, 12));
     }
     if is_this_line(k) {
-        return Found::Row(several(2, PART_COUNT, 0, 0, 37));
+        return Some(several(2, PART_COUNT, 0, 0, 37));
     }
     if is_all_ele(k) {
-        return Found::Row(several(3, PART_COUNT, 0, 0, 13));
+        return Some(several(3, PART_COUNT, 0, 0, 13));
     }
     if is_this_ele(k) {
-        return Found::Row(several(4, PART_COUNT, 0, 0, 38));
+        return Some(several(4, PART_COUNT, 0, 0, 38));
     }
     if is_next_file(k) {
-        return Found::Row(may_be_empty(plain(5, HOLDS_VOLUME_NAME, 0)));
+        return Some(may_be_empty(plain(5, HOLDS_VOLUME_NAME, 0)));
     }
     if is_date(k) {
-        return Found::Row(several(6, PART_DAY, 0, 0, 14));
+        return Some(several(6, PART_DAY, 0, 0, 14));
     }
     if is_time(k) {
-        return Found::Row(several(7, PART_CLOCK, 0, 0, 15));
+        return Some(several(7, PART_CLOCK, 0, 0, 15));
     }
     header_text_row(k)
 }
 
 // `range`.
-pub(crate) fn range_row(k: &[u8]) -> Found
+pub(crate) fn range_row(k: &[u8]) -> Option<Row>
     ensures { found_for_line (find k.now range_table) ≡ found_of result }
 {
     if is_base(k) {
-        return Found::Row(inner(0, HOLDS_HEADED, PART_RANGE_1, 2, 0));
+        return Some(inner(0, HOLDS_HEADED, PART_RANGE_1, 2, 0));
     }
     if is_arc(k) {
-        return Found::Row(several(1, PART_RANGE_0_1, 0, 0, 6));
+        return Some(several(1, PART_RANGE_0_1, 0, 0, 6));
     }
     if is_elec(k) {
-        return Found::Row(inner(2, HOLDS_EITHER, 0, 3, 7));
+        return Some(inner(2, HOLDS_EITHER, 0, 3, 7));
     }
     if is_air(k) {
-        return Found::Row(several(3, PART_RANGE_0, 0, 0, 0));
+        return Some(several(3, PART_RANGE_0, 0, 0, 0));
     }
     if is_pipe(k) {
-        return Found::Row(several(4, PART_RANGE_0, 0, 0, 0));
+        return Some(several(4, PART_RANGE_0, 0, 0, 0));
     }
     if is_sym(k) {
-        return Found::Row(inner(5, HOLDS_EITHER, 0, 4, 9));
+        return Some(inner(5, HOLDS_EITHER, 0, 4, 9));
     }
-    Found::Absent
+    None
 }
 
 // `base=001:{`.
-pub(crate) fn base_row(k: &[u8]) -> Found
+pub(crate) fn base_row(k: &[u8]) -> Option<Row>
     ensures { found_for_line (find k.now base_table) ≡ found_of result }
 {
     if is_b_sym(k) {
-        return Found::Row(several(0, PART_RANGE_0_1, 0, 0, 5));
+        return Some(several(0, PART_RANGE_0_1, 0, 0, 5));
     }
-    Found::Absent
+    None
 }
 
 // `elec=001:{`.
-pub(crate) fn elec_row(k: &[u8]) -> Found
+pub(crate) fn elec_row(k: &[u8]) -> Option<Row>
     ensures { found_for_line (find k.now elec_table) ≡ found_of result }
 {
     if is_e_sym(k) {
-        return Found::Row(several(0, PART_SYMBOL_RANGE, 0, 0, 8));
+        return Some(several(0, PART_SYMBOL_RANGE, 0, 0, 8));
     }
     if is_e_wire(k) {
-        return Found::Row(several(1, PART_WIRE_RANGE, 0, 0, 0));
+        return Some(several(1, PART_WIRE_RANGE, 0, 0, 0));
     }
     if is_e_cirno(k) {
-        return Found::Row(several(2, PART_RANGE_0, 0, 0, 0));
+        return Some(several(2, PART_RANGE_0, 0, 0, 0));
     }
-    Found::Absent
+    None
 }
 
 // `sym=001:{`.
-pub(crate) fn sym_row(k: &[u8]) -> Found
+pub(crate) fn sym_row(k: &[u8]) -> Option<Row>
     ensures { found_for_line (find k.now sym_table) ≡ found_of result }
 {
     if is_s_base(k) {
-        return Found::Row(several(0, PART_RANGE_0_1, 0, 0, 10));
+        return Some(several(0, PART_RANGE_0_1, 0, 0, 10));
     }
     if is_s_elec(k) {
-        return Found::Row(several(1, PART_RANGE_0_2, 0, 0, 11));
+        return Some(several(1, PART_RANGE_0_2, 0, 0, 11));
     }
-    Found::Absent
+    None
 }
 
 // FILE_FORMAT of later volumes.
-pub(crate) fn later_row(k: &[u8]) -> Found
+pub(crate) fn later_row(k: &[u8]) -> Option<Row>
     ensures { found_for_line (find k.now later_table) ≡ found_of result }
 {
     if is_this_line(k) {
-        return Found::Row(several(0, PART_COUNT, 0, 0, 5));
+        return Some(several(0, PART_COUNT, 0, 0, 5));
     }
     if is_this_ele(k) {
-        return Found::Row(several(1, PART_COUNT, 0, 0, 6));
+        return Some(several(1, PART_COUNT, 0, 0, 6));
     }
     if is_next_file(k) {
-        return Found::Row(may_be_empty(plain(2, HOLDS_VOLUME_NAME, 0)));
+        return Some(may_be_empty(plain(2, HOLDS_VOLUME_NAME, 0)));
     }
     if is_date(k) {
-        return Found::Row(several(3, PART_DAY, 0, 0, 0));
+        return Some(several(3, PART_DAY, 0, 0, 0));
     }
     if is_time(k) {
-        return Found::Row(several(4, PART_CLOCK, 0, 0, 0));
+        return Some(several(4, PART_CLOCK, 0, 0, 0));
     }
-    Found::Absent
+    None
 }
 
 // DRAWING_FORMAT; its range is arc.
-pub(crate) fn drawing_row(k: &[u8]) -> Found
+pub(crate) fn drawing_row(k: &[u8]) -> Option<Row>
     ensures { found_for_line (find k.now drawing_table) ≡ found_of result }
 {
     if is_size(k) {
-        return Found::Row(plain(0, HOLDS_SHEET, 5));
+        return Some(plain(0, HOLDS_SHEET, 5));
     }
     if is_scale(k) {
-        return Found::Row(plain(1, HOLDS_RATIO, 7));
+        return Some(plain(1, HOLDS_RATIO, 7));
     }
     if is_project(k) {
-        return Found::Row(free_text(2, PROJECT, 12));
+        return Some(free_text(2, PROJECT, 12));
     }
     if is_drawname(k) {
-        return Found::Row(free_text(3, DRAWNAME, 14));
+        return Some(free_text(3, DRAWNAME, 14));
     }
     if is_date(k) {
-        return Found::Row(several(4, PART_DAY, 0, 0, 9));
+        return Some(several(4, PART_DAY, 0, 0, 9));
     }
     if is_drawer(k) {
-        return Found::Row(may_be_empty(free_text(5, DRAWER, 16)));
+        return Some(may_be_empty(free_text(5, DRAWER, 16)));
     }
     if is_floor_height(k) {
-        return Found::Row(with_state(
+        return Some(with_state(
             from(may_be_empty(several(6, PART_NOT_NEGATIVE, 0, 0, 11)), 0, 1),
             10,
         ));
     }
     if is_layer_name(k) {
-        return Found::Row(inner(7, HOLDS_BLOCK, 0, 1, 0));
+        return Some(inner(7, HOLDS_BLOCK, 0, 1, 0));
     }
-    Found::Absent
+    None
 }
 
 // SYMBOL_DEFINE; its range is S_elec.
-pub(crate) fn defines_row(k: &[u8]) -> Found
+pub(crate) fn defines_row(k: &[u8]) -> Option<Row>
     ensures { found_for_line (find k.now defines_table) ≡ found_of result }
 {
     if is_non(k) {
-        return Found::Row(plain(0, HOLDS_NOTHING, 0));
+        return Some(plain(0, HOLDS_NOTHING, 0));
     }
     if is_e_symbol(k) {
-        return Found::Row(from(times(inner(1, HOLDS_BLOCK, 0, 1, 0), TIMES_ANY), 0, 1));
+        return Some(from(times(inner(1, HOLDS_BLOCK, 0, 1, 0), TIMES_ANY), 0, 1));
     }
-    Found::Absent
+    None
 }
 
 // E_symbol in SYMBOL_DEFINE; its range is S_elec.
-pub(crate) fn symbol_row(k: &[u8]) -> Found
+pub(crate) fn symbol_row(k: &[u8]) -> Option<Row>
     ensures { found_for_line (find k.now symbol_table) ≡ found_of result }
 {
     if is_name(k) {
-        return Found::Row(text(0, HOLDS_WORD, 32, LETTERS_AND_DIGITS, 5));
+        return Some(text(0, HOLDS_WORD, 32, LETTERS_AND_DIGITS, 5));
     }
     if is_element(k) {
-        return Found::Row(inner(1, HOLDS_BLOCK, 0, 1, 0));
+        return Some(inner(1, HOLDS_BLOCK, 0, 1, 0));
     }
     if is_hide(k) {
-        return Found::Row(inner(2, HOLDS_BLOCK, 0, 2, 0));
+        return Some(inner(2, HOLDS_BLOCK, 0, 2, 0));
     }
     if is_wall(k) {
-        return Found::Row(with_state(from(may_be_empty(several(3, WALL_FORMS, 1, 0, 8)), 0, 2), 7));
+        return Some(with_state(from(may_be_empty(several(3, WALL_FORMS, 1, 0, 8)), 0, 2), 7));
     }
-    Found::Absent
+    None
 }
 
 // ELEMENT.
-pub(crate) fn element_row(k: &[u8]) -> Found
+pub(crate) fn element_row(k: &[u8]) -> Option<Row>
     ensures { found_for_line (find k.now element_table) ≡ found_of result }
 {
     if is_layer(k) {
-        return Found::Row(times(inner(0, HOLDS_HEADED, PART_LAYER_ID, 1, 0), TIMES_ANY));
+        return Some(times(inner(0, HOLDS_HEADED, PART_LAYER_ID, 1, 0), TIMES_ANY));
     }
-    Found::Absent
+    None
 }
 
 // A placed symbol's block; its range is E_sym.
-pub(crate) fn placed_row(k: &[u8]) -> Found
+pub(crate) fn placed_row(k: &[u8]) -> Option<Row>
     ensures { found_for_line (find k.now placed_table) ≡ found_of result }
 {
     if is_symbol(k) {
-        return Found::Row(several(0, SYMBOL_FORMS, 4, 0, 5));
+        return Some(several(0, SYMBOL_FORMS, 4, 0, 5));
     }
     if is_text(k) {
-        return Found::Row(with_state(from(inner(1, HOLDS_BLOCK, 0, 1, 0), 0, 2), 26));
+        return Some(with_state(from(inner(1, HOLDS_BLOCK, 0, 1, 0), 0, 2), 26));
     }
     if is_hight(k) {
-        return Found::Row(with_state(
+        return Some(with_state(
             from(may_be_empty(several(2, PART_ANY_SIGN, 0, 0, 10)), 0, 3),
             27,
         ));
     }
     if is_pos(k) {
-        return Found::Row(with_state(
+        return Some(with_state(
             from(may_be_empty(several(3, PART_POSITION, 0, 0, 11)), 0, 4),
             28,
         ));
     }
     if is_circuit(k) {
-        return Found::Row(with_state(
+        return Some(with_state(
             from(
                 may_be_empty(text(4, HOLDS_WORD, 10, CIRCUIT_BYTES, 12)),
                 0,
@@ -346,50 +346,50 @@ pub(crate) fn placed_row(k: &[u8]) -> Found
         ));
     }
     if is_serial(k) {
-        return Found::Row(with_state(from(plain(5, HOLDS_SERIALS, 14), 1, 0), 30));
+        return Some(with_state(from(plain(5, HOLDS_SERIALS, 14), 1, 0), 30));
     }
-    Found::Absent
+    None
 }
 
 // A wire's block; its range is the last two digits of E_wire.
-pub(crate) fn wire_row(k: &[u8]) -> Found
+pub(crate) fn wire_row(k: &[u8]) -> Option<Row>
     ensures { found_for_line (find k.now wire_table) ≡ found_of result }
 {
     if is_line(k) {
-        return Found::Row(times(several(0, LINE_FORMS, 4, ACROSS_ENDS, 4), TIMES_ANY));
+        return Some(times(several(0, LINE_FORMS, 4, ACROSS_ENDS, 4), TIMES_ANY));
     }
     if is_circle(k) {
-        return Found::Row(times(several(1, CIRCLE_FORMS, 6, ACROSS_ARC, 4), TIMES_ANY));
+        return Some(times(several(1, CIRCLE_FORMS, 6, ACROSS_ARC, 4), TIMES_ANY));
     }
     if is_direc(k) {
-        return Found::Row(with_state(from(times(several(2, DIREC_FORMS, 3, 0, 0), 2), 0, 2), 26));
+        return Some(with_state(from(times(several(2, DIREC_FORMS, 3, 0, 0), 2), 0, 2), 26));
     }
     if is_piend(k) {
-        return Found::Row(with_state(
+        return Some(with_state(
             from(times(several(3, PIEND_FORMS, 2, 0, 0), TIMES_ANY), 0, 3),
             27,
         ));
     }
     if is_num(k) {
-        return Found::Row(with_state(
+        return Some(with_state(
             from(times(several(4, NUM_FORMS, 4, 0, 0), TIMES_ANY), 0, 4),
             28,
         ));
     }
     if is_text(k) {
-        return Found::Row(with_state(
+        return Some(with_state(
             from(times(inner(5, HOLDS_BLOCK, 0, 1, 0), TIMES_ANY), 0, 5),
             58,
         ));
     }
     if is_length(k) {
-        return Found::Row(with_state(
+        return Some(with_state(
             from(may_be_empty(several(6, PART_NOT_NEGATIVE, 0, 0, 25)), 0, 6),
             29,
         ));
     }
     if is_circuit(k) {
-        return Found::Row(with_state(
+        return Some(with_state(
             from(
                 may_be_empty(text(7, HOLDS_WORD, 10, CIRCUIT_BYTES, 48)),
                 0,
@@ -399,7 +399,7 @@ pub(crate) fn wire_row(k: &[u8]) -> Found
         ));
     }
     if is_power(k) {
-        return Found::Row(with_state(
+        return Some(with_state(
             from(
                 may_be_empty(several(8, POWER_FORMS, 2, ACROSS_POWER, 50)),
                 0,
@@ -409,7 +409,7 @@ pub(crate) fn wire_row(k: &[u8]) -> Found
         ));
     }
     if is_serial(k) {
-        return Found::Row(with_state(from(plain(9, HOLDS_WIRE_SERIAL, 53), 1, 0), 61));
+        return Some(with_state(from(plain(9, HOLDS_WIRE_SERIAL, 53), 1, 0), 61));
     }
-    Found::Absent
+    None
 }

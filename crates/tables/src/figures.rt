@@ -11,8 +11,7 @@ use crate::keys::{
 };
 use crate::rows::{free_text, from, inner, plain, several, times};
 use crate::{
-    ACROSS_ARC, ACROSS_AXES, ACROSS_ENDS, ARC_FORMS, Found, HOLDS_BLOCK, HOLDS_CIRCLE, Row,
-    TIMES_ANY,
+    ACROSS_ARC, ACROSS_AXES, ACROSS_ENDS, ARC_FORMS, HOLDS_BLOCK, HOLDS_CIRCLE, Row, TIMES_ANY,
 };
 
 const MOST_POINTS: u8 = 100;
@@ -58,40 +57,40 @@ fn circle_in(in_layer: bool) -> Row
 }
 
 // A wire among the figures of a layer, where it may stand there.
-fn wiring_row(k: &[u8], wired: bool) -> Found
+fn wiring_row(k: &[u8], wired: bool) -> Option<Row>
     ensures { found_for_line (behind_seven (find k.now (any_of (wire_rows wired)))) ≡ found_of result }
 {
     if !wired {
-        return Found::Absent;
+        return None;
     }
     if is_e_wire(k) {
-        return Found::Row(times(inner(7, HOLDS_BLOCK, 0, 4, 0), TIMES_ANY));
+        return Some(times(inner(7, HOLDS_BLOCK, 0, 4, 0), TIMES_ANY));
     }
-    Found::Absent
+    None
 }
 
 // A placed symbol among the figures of a layer: none (0), its block (1), or on one line (2); and behind it a wire.
-fn placing_row(k: &[u8], placed: u8, wired: bool) -> Found
+fn placing_row(k: &[u8], placed: u8, wired: bool) -> Option<Row>
     ensures { found_for_line (behind_six (find k.now (any_of (placed_rows placed wired)))) ≡ found_of result }
 {
     if placed == 0 {
-        return Found::Absent;
+        return None;
     }
     if !is_e_symbol(k) {
         return wiring_row(k, wired);
     }
     if placed == 1 {
-        return Found::Row(from(times(inner(6, HOLDS_BLOCK, 0, 3, 5), TIMES_ANY), 0, 1));
+        return Some(from(times(inner(6, HOLDS_BLOCK, 0, 3, 5), TIMES_ANY), 0, 1));
     }
-    Found::Row(from(times(several(6, PLACING, 4, 0, 5), TIMES_ANY), 0, 1))
+    Some(from(times(several(6, PLACING, 4, 0, 5), TIMES_ANY), 0, 1))
 }
 
 // The figures of a layer or of a symbol's `element`, and what else may stand among them.
-pub(crate) fn figure_row(k: &[u8], in_layer: bool, placed: u8, wired: bool) -> Found
+pub(crate) fn figure_row(k: &[u8], in_layer: bool, placed: u8, wired: bool) -> Option<Row>
     ensures { found_for_line (find k.now (figures_table in_layer placed wired)) ≡ found_of result }
 {
     if is_line(k) {
-        return Found::Row(times(
+        return Some(times(
             several(
                 0,
                 by_home(in_layer, LINE_IN_LAYER, LINE_IN_SYMBOL),
@@ -103,13 +102,13 @@ pub(crate) fn figure_row(k: &[u8], in_layer: bool, placed: u8, wired: bool) -> F
         ));
     }
     if is_circle(k) {
-        return Found::Row(times(circle_in(in_layer), TIMES_ANY));
+        return Some(times(circle_in(in_layer), TIMES_ANY));
     }
     if is_ellipse(k) {
-        return Found::Row(times(several(2, ELLIPSE, 8, ACROSS_AXES, 4), TIMES_ANY));
+        return Some(times(several(2, ELLIPSE, 8, ACROSS_AXES, 4), TIMES_ANY));
     }
     if is_point(k) {
-        return Found::Row(times(
+        return Some(times(
             several(
                 3,
                 by_home(in_layer, POINT_IN_LAYER, POINT_IN_SYMBOL),
@@ -121,20 +120,20 @@ pub(crate) fn figure_row(k: &[u8], in_layer: bool, placed: u8, wired: bool) -> F
         ));
     }
     if is_successive(k) {
-        return Found::Row(times(inner(4, HOLDS_BLOCK, 0, 1, 0), TIMES_ANY));
+        return Some(times(inner(4, HOLDS_BLOCK, 0, 1, 0), TIMES_ANY));
     }
     if is_text(k) {
-        return Found::Row(times(inner(5, HOLDS_BLOCK, 0, 2, 0), TIMES_ANY));
+        return Some(times(inner(5, HOLDS_BLOCK, 0, 2, 0), TIMES_ANY));
     }
     placing_row(k, placed, wired)
 }
 
 // `successive` or `hide`.
-pub(crate) fn point_row(k: &[u8], in_layer: bool) -> Found
+pub(crate) fn point_row(k: &[u8], in_layer: bool) -> Option<Row>
     ensures { found_for_line (find k.now (point_table in_layer)) ≡ found_of result }
 {
     if is_point(k) {
-        return Found::Row(times(
+        return Some(times(
             several(
                 0,
                 by_home(in_layer, POINT_IN_LAYER, POINT_IN_SYMBOL),
@@ -145,15 +144,15 @@ pub(crate) fn point_row(k: &[u8], in_layer: bool) -> Found
             MOST_POINTS,
         ));
     }
-    Found::Absent
+    None
 }
 
 // `text`, whose two lines go to these places of the record.
-pub(crate) fn lettering_row(k: &[u8], in_layer: bool, first: u8, behind: u8) -> Found
+pub(crate) fn lettering_row(k: &[u8], in_layer: bool, first: u8, behind: u8) -> Option<Row>
     ensures { found_for_line (find k.now (text_table in_layer first behind)) ≡ found_of result }
 {
     if is_type(k) {
-        return Found::Row(several(
+        return Some(several(
             0,
             by_home(in_layer, LETTERING_IN_LAYER, LETTERING_IN_SYMBOL),
             7,
@@ -162,7 +161,7 @@ pub(crate) fn lettering_row(k: &[u8], in_layer: bool, first: u8, behind: u8) -> 
         ));
     }
     if is_character(k) {
-        return Found::Row(free_text(1, CHARACTER, behind));
+        return Some(free_text(1, CHARACTER, behind));
     }
-    Found::Absent
+    None
 }

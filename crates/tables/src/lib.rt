@@ -170,9 +170,3 @@ pub struct Row {
     pub place: u8,
     pub state: u8,
 }
-
-#[derive(Clone, Copy)]
-pub enum Found {
-    Absent,
-    Row(Row),
-}

@@ -11,14 +11,14 @@ use crate::blocks::{
 };
 use crate::figures::{figure_row, lettering_row, point_row};
 use crate::{
-    Found, TABLE_BASE, TABLE_DEFINES, TABLE_DRAWING, TABLE_ELEC, TABLE_ELEMENT, TABLE_FIGURES,
+    Row, TABLE_BASE, TABLE_DEFINES, TABLE_DRAWING, TABLE_ELEC, TABLE_ELEMENT, TABLE_FIGURES,
     TABLE_FILE, TABLE_LATER, TABLE_LAYER, TABLE_LAYER_POINTS, TABLE_LAYER_TEXT, TABLE_PLACED,
     TABLE_PLACED_TEXT, TABLE_RANGE, TABLE_SINGLE_LAYER, TABLE_SINGLE_WIRED_LAYER, TABLE_SYM,
     TABLE_SYMBOL, TABLE_SYMBOL_POINTS, TABLE_SYMBOL_TEXT, TABLE_TOP, TABLE_WIRE, TABLE_WIRED_LAYER,
 };
 
 // The row of a key, and its number; a table that is none has no rows.
-pub fn row_of(table: u8, k: &[u8]) -> Found
+pub fn row_of(table: u8, k: &[u8]) -> Option<Row>
     ensures { found_for_line (find k.now (table_of table)) ≡ found_of result }
 {
     if table == TABLE_TOP {
@@ -90,5 +90,5 @@ pub fn row_of(table: u8, k: &[u8]) -> Found
     if table == TABLE_SINGLE_WIRED_LAYER {
         return figure_row(k, true, 2, true);
     }
-    Found::Absent
+    None
 }

@@ -1,4 +1,5 @@
 -- A line in `successive`.
+use Rattle.std.specs.Prelude.{Result}
 use Prim.Native.Nat.{ℕ}
 use mathlib.Core.Bool.{Bool, true, false, ◌&&◌}
 use mathlib.Core.List.{List, [], ◌∷◌, ◌++◌, append_assoc}
@@ -30,7 +31,6 @@ use Rattle.entries.specs.declared.Rest.{Rest as CodeRest}
 use Rattle.entries.specs.Shapes.{rest_in}
 use Rattle.prints.specs.Reading.{Reads}
 use Rattle.pens.specs.declared.Pen.{Pen}
-use Rattle.pens.specs.declared.Drawn.{Drawn}
 use Rattle.pens.specs.Texts.{ended}
 use Rattle.pens.specs.Moves.{moved, table_for}
 use Rattle.pens.specs.Shown.{home_known, figures_text}
@@ -43,6 +43,7 @@ use Rattle.volumes.proofs.HomeLaws.{shut-did, key-line, shut-line, known-records
 use Rattle.volumes.proofs.FrontSteps.{took}
 use Rattle.volumes.proofs.FigureLaws.{nums-line}
 use Rattle.pens.proofs.ShownLaws.{block-parts, points-more, points-last}
+use Rattle.leaves.specs.declared.NoRoom.{NoRoom}
 
 chain-table : (first : Bool) (p : Pen) (b c : Bool) → p.block ≡ 9 → p.layered ≡ b → table_of (table_for first p c) ≡ point_table b
 unfolding table_of
@@ -56,7 +57,7 @@ point-line b {j} w k v =
     ap (λ (n : ℕ). line_of k (rule_at (point_table b) n) (nums (nums_of v))) (sym i) ∙ nums-line w refl k v
 
 module _ (K : Known) (spool : List ℕ) (first : Bool) (p : Pen) (ns out : List ℕ) (e : Env) (l : Line) (c : e.class ≡ full_class)
-    (st' : State) (ns' out' : List ℕ) (d : Drawn) (size : length out' ≡ length out) (many : length ns' ≡ 28)
+    (st' : State) (ns' out' : List ℕ) (d : Result Pen NoRoom) (size : length out' ≡ length out) (many : length ns' ≡ 28)
     (s : Set) (h : Home) (fs : List Figure) (n : ℕ) (ps : List Point) (z : Pens K spool first p ns out (successive s h fs n ps)) (q : step_in e l (successive s h fs n ps) ≡ got st') where
   pub successive-key : (key : Span) (rest : CodeRest) → l.form ≡ keyed (bytes_at spool key) (rest_in spool rest) → PlacedRest rest → FormFits l.form
       → KeyLine spool first key rest p ns ns' out out' d → LineOut K spool first st' ns' out' d

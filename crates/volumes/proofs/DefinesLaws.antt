@@ -1,4 +1,5 @@
 -- A line in SYMBOL_DEFINE.
+use Rattle.std.specs.Prelude.{Result}
 use Prim.Native.Nat.{ℕ, zero, suc, ◌+◌}
 use mathlib.Core.Bool.{Bool, true, false, cond, ◌||◌, not}
 use mathlib.Core.List.{List, [], ◌∷◌, ◌++◌, append_assoc, append-nil}
@@ -29,7 +30,6 @@ use Rattle.prints.specs.Reading.{Reads}
 use Rattle.promises.proofs.Forms.{table-keys}
 use Rattle.promises.proofs.Nameless.{nameless}
 use Rattle.pens.specs.declared.Pen.{Pen}
-use Rattle.pens.specs.declared.Drawn.{Drawn}
 use Rattle.pens.specs.Texts.{ended, line_bytes, Draws}
 use Rattle.pens.specs.Moves.{moved, begun, table_for}
 use Rattle.pens.specs.Noting.{forgotten}
@@ -43,6 +43,7 @@ use Rattle.volumes.proofs.Acted.{reads_any, acted}
 use Rattle.pens.proofs.NotedLaws.{zeros-at}
 use Rattle.pens.proofs.ShownLaws.{symbols-more}
 use Rattle.volumes.proofs.FrontSteps.{took, closed, row_is, front-more}
+use Rattle.leaves.specs.declared.NoRoom.{NoRoom}
 
 -- ── the two rows ──
 abbrev rule : ℕ → Rule
@@ -82,14 +83,14 @@ defines-closed K false [] n g = clash g refl
 defines-closed K false (y ∷ ys) n g = symbols-more K (y ∷ ys) (bytes "}" ∷ [])
 
 -- ── what the code does in this block ──
-module _ (t : ℕ) (p : Pen) (rest : Rest) (K : Known) (r : Rule) (v : Value) (ns ns' out out' : List ℕ) (d : Drawn) (e : p.block ≡ 4) where
+module _ (t : ℕ) (p : Pen) (rest : Rest) (K : Known) (r : Rule) (v : Value) (ns ns' out out' : List ℕ) (d : Result Pen NoRoom) (e : p.block ≡ 4) where
   non-done : KeyDone t p rest K 0 r v ns ns' out out' d → Draws (ended (line_of K r v)) p.at (moved p (length (ended (line_of K r v))) 4 0) out out' d × (ns' ≡ ns)
   non-done w = (rw e at w.draws, rw e at w.notes)
 
   symbol-done : KeyDone t p rest K 1 r v ns ns' out out' d → Draws (ended (line_of K r v)) p.at (begun p (length (ended (line_of K r v))) 5) out out' d × (ns' ≡ forgotten ns)
   symbol-done w = (rw e at w.draws, rw e at w.notes)
 
-module _ (K : Known) (spool : List ℕ) (first : Bool) (p : Pen) (ns out : List ℕ) (s : Set) (b : Bool) (z : Pens K spool first p ns out (defines s b)) (e : Env) (l : Line) (c : e.class ≡ full_class) (st' : State) (q : step_in e l (defines s b) ≡ got st') (ns' out' : List ℕ) (d : Drawn) (size : length out' ≡ length out) (many : length ns' ≡ 28) where
+module _ (K : Known) (spool : List ℕ) (first : Bool) (p : Pen) (ns out : List ℕ) (s : Set) (b : Bool) (z : Pens K spool first p ns out (defines s b)) (e : Env) (l : Line) (c : e.class ≡ full_class) (st' : State) (q : step_in e l (defines s b) ≡ got st') (ns' out' : List ℕ) (d : Result Pen NoRoom) (size : length out' ≡ length out) (many : length ns' ≡ 28) where
   abbrev front : Front first s
   front = z.here.1
 

@@ -1,8 +1,8 @@
 -- A line in DRAWING_FORMAT, and in its `layer_name`.
+use Rattle.std.specs.Prelude.{Option, Some, None, Result}
 use Prim.Native.Nat.{ℕ, zero, suc, ◌+◌, ◌<◌}
 use mathlib.Core.Bool.{Bool, true, false, cond, not}
 use mathlib.Core.List.{List, [], ◌∷◌, ◌++◌, map, append_assoc, append-nil}
-use mathlib.Core.Option.{Option, none, some}
 use mathlib.Core.Path.{◌≡◌, refl, sym, ◌∙◌, ap, subst}
 use native.Mathlib.Omega.{arith}
 use borrow.Author.Tests.{ne_eqb}
@@ -32,7 +32,6 @@ use Rattle.prints.specs.Reading.{Reads}
 use Rattle.promises.proofs.Forms.{table-keys}
 use Rattle.promises.proofs.Nameless.{nameless}
 use Rattle.pens.specs.declared.Pen.{Pen}
-use Rattle.pens.specs.declared.Drawn.{Drawn}
 use Rattle.pens.specs.Texts.{ended, Draws}
 use Rattle.pens.specs.Moves.{moved, table_for}
 use Rattle.pens.specs.Noting.{note_of, Noted, NotedRows}
@@ -46,6 +45,7 @@ use Rattle.volumes.proofs.Acted.{reads_any, acted}
 use Rattle.pens.proofs.NotedLaws.{noted-line, set-rows}
 use Rattle.pens.proofs.ShownLaws.{opens_nothing, block-parts, slots-more, slots-append, slots-flat, none_more, layers-more, layers-last, block_more}
 use Rattle.volumes.proofs.FrontSteps.{took, closed, row_is, unread, draws-line, line-long, still, front-more}
+use Rattle.leaves.specs.declared.NoRoom.{NoRoom}
 
 -- ── the rows: seven that are noted, and `layer_name` ──
 abbrev rule : ℕ → Rule
@@ -93,7 +93,7 @@ unfolding table_of
 drawing-table first p b e = rw e
 
 -- ── what the code does in this block ──
-module _ (first b : Bool) (p : Pen) (rest : Rest) (K : Known) (j : ℕ) (r : Rule) (v : Value) (ns ns' out out' : List ℕ) (d : Drawn) (e : p.block ≡ 2) where
+module _ (first b : Bool) (p : Pen) (rest : Rest) (K : Known) (j : ℕ) (r : Rule) (v : Value) (ns ns' out out' : List ℕ) (d : Result Pen NoRoom) (e : p.block ≡ 2) where
   row_done : eqb j 7 ≡ false → KeyDone (table_for first p b) p rest K j r v ns ns' out out' d → Draws [] p.at (still p 2) out out' d × (ns' ≡ set ns (0 + j) (note_of rest))
   row_done n w = (rw (e, n) at w.draws, rw (e, n) at w.notes)
 
@@ -107,56 +107,56 @@ module _ (K : Known) (dr : Drawing) where
 
   names-slot : (o : Option Value) (ls : Text) → show_slot K (rule 7) o inside ls ≡ cond (is_some o) (block (bytes "layer_name") (show_layers K dr.layers) []) [] ++ ls
   unfolding drawing_table
-  names-slot none ls = refl
-  names-slot (some v) ls = block_more (bytes "layer_name") (show_layers K dr.layers) (layers-more K dr.layers) ls
+  names-slot None ls = refl
+  names-slot (Some v) ls = block_more (bytes "layer_name") (show_layers K dr.layers) (layers-more K dr.layers) ls
 
   abbrev pub rows_text : Text
   rows_text = show_slots K noted_table (take 7 dr.own) no_inner []
 
-  eight-slots : length dr.own ≡ 8 → dr.own ≡ take 7 dr.own ++ get_or dr.own 7 none ∷ []
+  eight-slots : length dr.own ≡ 8 → dr.own ≡ take 7 dr.own ++ get_or dr.own 7 None ∷ []
   eight-slots eight =
-      split_at dr.own 7 none (omega (arith, eight)) ∙ ap (λ (u : Slots). take 7 dr.own ++ get_or dr.own 7 none ∷ u) (drop_of_length-le dr.own {i = 8} (omega (arith, eight)))
+      split_at dr.own 7 None (omega (arith, eight)) ∙ ap (λ (u : Slots). take 7 dr.own ++ get_or dr.own 7 None ∷ u) (drop_of_length-le dr.own {i = 8} (omega (arith, eight)))
 
   pub drawing-text : length dr.own ≡ 8 → show_drawing K dr (bytes "}" ∷ []) ≡ rows_text ++ (names_text K dr ++ bytes "}" ∷ [])
   drawing-text eight =
       let end : Text = bytes "}" ∷ [] in
-      let last : Text = show_slots K (rule 7 ∷ []) (get_or dr.own 7 none ∷ []) inside end in
+      let last : Text = show_slots K (rule 7 ∷ []) (get_or dr.own 7 None ∷ []) inside end in
       ap (λ (t : List Rule). show_slots K t dr.own inside end) table-parts.0
       ∙ ap (λ (o : Slots). show_slots K (noted_table ++ rule 7 ∷ []) o inside end) (eight-slots eight)
-      ∙ slots-append K inside (λ i. layers-more K dr.layers) noted_table (rule 7 ∷ []) (take 7 dr.own) (get_or dr.own 7 none ∷ [])
+      ∙ slots-append K inside (λ i. layers-more K dr.layers) noted_table (rule 7 ∷ []) (take 7 dr.own) (get_or dr.own 7 None ∷ [])
       (length-take-le 7 dr.own (omega (arith, eight)) ∙ sym table-parts.1) end
       ∙ slots-flat K inside noted_table table-parts.2 (take 7 dr.own) last
       ∙ slots-more K no_inner (none_more K) noted_table (take 7 dr.own) last
-      ∙ ap (λ (u : Text). rows_text ++ u) (names-slot (get_or dr.own 7 none) end)
+      ∙ ap (λ (u : Text). rows_text ++ u) (names-slot (get_or dr.own 7 None) end)
 
-module _ (K : Known) (spool : List ℕ) (first : Bool) (p : Pen) (ns out : List ℕ) (s : Set) (dr : Drawing) (z : Pens K spool first p ns out (drawing s dr)) (e : Env) (l : Line) (c : e.class ≡ full_class) (st' : State) (q : step_in e l (drawing s dr) ≡ got st') (ns' out' : List ℕ) (d : Drawn) (size : length out' ≡ length out) (many : length ns' ≡ 28) where
+module _ (K : Known) (spool : List ℕ) (first : Bool) (p : Pen) (ns out : List ℕ) (s : Set) (dr : Drawing) (z : Pens K spool first p ns out (drawing s dr)) (e : Env) (l : Line) (c : e.class ≡ full_class) (st' : State) (q : step_in e l (drawing s dr) ≡ got st') (ns' out' : List ℕ) (d : Result Pen NoRoom) (size : length out' ≡ length out) (many : length ns' ≡ 28) where
   abbrev within : InDrawing K spool first p ns s dr
   within = z.here.1
 
   abbrev with_row : ℕ → Value → Drawing
-  with_row j v = with_own (set dr.own j (some v)) dr
+  with_row j v = with_own (set dr.own j (Some v)) dr
 
   -- ── a row is noted ──
-  same_names : (j : ℕ) (v : Value) → j < 7 → get_or (with_row j v).own 7 none ≡ get_or dr.own 7 none
-  same_names j v m = get_or-set_other dr.own j 7 (some v) none (λ i. omega (arith, i, m))
+  same_names : (j : ℕ) (v : Value) → j < 7 → get_or (with_row j v).own 7 None ≡ get_or dr.own 7 None
+  same_names j v m = get_or-set_other dr.own j 7 (Some v) None (λ i. omega (arith, i, m))
 
   row-shown : (j : ℕ) (v : Value) → j < 7 → shown K first (drawing s (with_row j v)) ≡ shown K first (drawing s dr) ++ []
   row-shown j v m =
       ap (λ (o : Option Value). drawing_begun K s ++ cond (is_some o) (block (bytes "layer_name") (show_layers K dr.layers) []) []) (same_names j v m)
       ∙ sym (append-nil (drawing_begun K s ++ names_text K dr))
 
-  row-noted : (j : ℕ) (v : Value) (n : ℕ) → j < 7 → Noted spool K (rule j) n (some v) → NotedRows spool K noted_table 0 (set ns (0 + j) n) (take 7 (with_row j v).own)
+  row-noted : (j : ℕ) (v : Value) (n : ℕ) → j < 7 → Noted spool K (rule j) n (Some v) → NotedRows spool K noted_table 0 (set ns (0 + j) n) (take 7 (with_row j v).own)
   row-noted j v n m w =
-      subst (NotedRows spool K noted_table 0 (set ns (0 + j) n)) (sym (take-set-lt 7 dr.own j (some v) m))
+      subst (NotedRows spool K noted_table 0 (set ns (0 + j) n)) (sym (take-set-lt 7 dr.own j (Some v) m))
       (set-rows spool K noted_table 0 ns (take 7 dr.own) j n v (omega (arith, m, table-parts.1)) (omega (arith, z.many, table-parts.1))
-      (subst (λ (r : Rule). Noted spool K r n (some v)) (sym (get_or-take 7 drawing_table j (row "" (opens 0) 0) m)) w) within.noted)
+      (subst (λ (r : Rule). Noted spool K r n (Some v)) (sym (get_or-take 7 drawing_table j (row "" (opens 0) 0) m)) w) within.noted)
 
-  row-stands : (j : ℕ) (v : Value) (n : ℕ) → j < 7 → ns' ≡ set ns (0 + j) n → Noted spool K (rule j) n (some v) → InDrawing K spool first (still p 2) ns' s (with_row j v)
+  row-stands : (j : ℕ) (v : Value) (n : ℕ) → j < 7 → ns' ≡ set ns (0 + j) n → Noted spool K (rule j) n (Some v) → InDrawing K spool first (still p 2) ns' s (with_row j v)
   row-stands j v n m u w = record {
     front = within.front;
     bare = within.bare;
     start = within.start;
-    slots = length-set dr.own j (some v) ∙ within.slots;
+    slots = length-set dr.own j (Some v) ∙ within.slots;
     noted = rw u (row-noted j v n m w);
     unnamed = λ i. within.unnamed (ap is_none (sym (same_names j v m)) ∙ i);
   }
@@ -165,27 +165,27 @@ module _ (K : Known) (spool : List ℕ) (first : Bool) (p : Pen) (ns out : List 
   abbrev named : Value → State
   named v = layer_names s (with_row 7 v)
 
-  names-shown : (v : Value) → get_or dr.own 7 none ≡ none → shown K first (named v) ≡ shown K first (drawing s dr) ++ open_line (bytes "layer_name") ∷ []
+  names-shown : (v : Value) → get_or dr.own 7 None ≡ None → shown K first (named v) ≡ shown K first (drawing s dr) ++ open_line (bytes "layer_name") ∷ []
   names-shown v a =
       let no_text : names_text K dr ≡ [] = rw a in
       ap (λ (us : List Layer). drawing_begun K s ++ open_line (bytes "layer_name") ∷ show_layers K us []) (within.unnamed (ap is_none a))
       ∙ ap (λ (u : Text). u ++ open_line (bytes "layer_name") ∷ []) (sym (ap (λ (u : Text). drawing_begun K s ++ u) no_text ∙ append-nil (drawing_begun K s)))
 
-  names-stands : (v : Value) (n : ℕ) → InDrawing K spool first (moved p n 3 0) ns s (with_row 7 v) × (is_some (get_or (with_row 7 v).own 7 none) ≡ true)
+  names-stands : (v : Value) (n : ℕ) → InDrawing K spool first (moved p n 3 0) ns s (with_row 7 v) × (is_some (get_or (with_row 7 v).own 7 None) ≡ true)
   names-stands v n =
-      let this : get_or (with_row 7 v).own 7 none ≡ some v = get_or-set_same dr.own 7 (some v) none (omega (arith, within.slots)) in (
+      let this : get_or (with_row 7 v).own 7 None ≡ Some v = get_or-set_same dr.own 7 (Some v) None (omega (arith, within.slots)) in (
         record {
           front = within.front;
           bare = within.bare;
           start = within.start;
-          slots = length-set dr.own 7 (some v) ∙ within.slots;
-          noted = subst (NotedRows spool K noted_table 0 ns) (sym (take-set-le 7 dr.own 7 (some v) (omega arith))) within.noted;
+          slots = length-set dr.own 7 (Some v) ∙ within.slots;
+          noted = subst (NotedRows spool K noted_table 0 ns) (sym (take-set-le 7 dr.own 7 (Some v) (omega arith))) within.noted;
           unnamed = λ i. clash i (ap is_none this);
         },
         ap is_some this,
       )
 
-  names-drawn : (v : Value) → get_or dr.own 7 none ≡ none → Draws (ended (open_line (bytes "layer_name"))) p.at (moved p (length (ended (open_line (bytes "layer_name")))) 3 0) out out' d → ns' ≡ ns
+  names-drawn : (v : Value) → get_or dr.own 7 None ≡ None → Draws (ended (open_line (bytes "layer_name"))) p.at (moved p (length (ended (open_line (bytes "layer_name")))) 3 0) out out' d → ns' ≡ ns
       → LineOut K spool first (named v) ns' out' d
   names-drawn v a w n =
       let h = names-stands v 14 in
@@ -248,7 +248,7 @@ module _ (K : Known) (spool : List ℕ) (first : Bool) (p : Pen) (ns out : List 
       (refl, (record { volume = front.volume; alone = front.alone; empty = front.empty; served = front.served }, within.bare)))
 
 -- ── in `layer_name` ──
-module _ (K : Known) (spool : List ℕ) (first : Bool) (p : Pen) (ns out : List ℕ) (s : Set) (dr : Drawing) (z : Pens K spool first p ns out (layer_names s dr)) (e : Env) (l : Line) (c : e.class ≡ full_class) (st' : State) (q : step_in e l (layer_names s dr) ≡ got st') (ns' out' : List ℕ) (d : Drawn) (size : length out' ≡ length out) (many : length ns' ≡ 28) where
+module _ (K : Known) (spool : List ℕ) (first : Bool) (p : Pen) (ns out : List ℕ) (s : Set) (dr : Drawing) (z : Pens K spool first p ns out (layer_names s dr)) (e : Env) (l : Line) (c : e.class ≡ full_class) (st' : State) (q : step_in e l (layer_names s dr) ≡ got st') (ns' out' : List ℕ) (d : Result Pen NoRoom) (size : length out' ≡ length out) (many : length ns' ≡ 28) where
   abbrev around : InDrawing K spool first p ns s dr
   around = z.here.1
 

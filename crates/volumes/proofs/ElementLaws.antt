@@ -1,4 +1,5 @@
 -- A line in ELEMENT.
+use Rattle.std.specs.Prelude.{Result}
 use Prim.Native.Nat.{ℕ}
 use mathlib.Core.Bool.{Bool, true, false, not}
 use mathlib.Core.List.{List, [], ◌∷◌, ◌++◌, append_assoc, append-nil}
@@ -29,7 +30,6 @@ use Rattle.entries.specs.Shapes.{rest_in}
 use Rattle.entries.specs.Acts.{value_of}
 use Rattle.prints.specs.Reading.{Reads}
 use Rattle.pens.specs.declared.Pen.{Pen}
-use Rattle.pens.specs.declared.Drawn.{Drawn}
 use Rattle.pens.specs.Texts.{ended}
 use Rattle.pens.specs.Moves.{moved, among_figures, table_for}
 use Rattle.pens.specs.Shown.{front_text, elements_begun, shown}
@@ -40,6 +40,7 @@ use Rattle.pens.specs.Drawing.{FormFits, LineOut}
 use Rattle.volumes.proofs.Acted.{acted}
 use Rattle.volumes.proofs.HomeLaws.{shut-did, key-line, shut-line, served-volume, volume-table, front-volume}
 use Rattle.pens.proofs.ShownLaws.{blocks_more}
+use Rattle.leaves.specs.declared.NoRoom.{NoRoom}
 
 -- ── the line of a layer ──
 -- what stands behind a key that opens is never empty
@@ -76,7 +77,7 @@ unfolding table_of
 element-table first p b h = rw h
 
 module _ (K : Known) (spool : List ℕ) (first : Bool) (p : Pen) (ns out : List ℕ) (e : Env) (l : Line) (c : e.class ≡ full_class)
-    (st' : State) (ns' out' : List ℕ) (d : Drawn) (size : length out' ≡ length out) (many : length ns' ≡ 28)
+    (st' : State) (ns' out' : List ℕ) (d : Result Pen NoRoom) (size : length out' ≡ length out) (many : length ns' ≡ 28)
     (s : Set) (z : Pens K spool first p ns out (elements s)) (q : step_in e l (elements s) ≡ got st') where
   pub elements-key : (key : Span) (rest : CodeRest) → l.form ≡ keyed (bytes_at spool key) (rest_in spool rest) → PlacedRest rest → FormFits l.form
       → KeyLine spool first key rest p ns ns' out out' d → LineOut K spool first st' ns' out' d

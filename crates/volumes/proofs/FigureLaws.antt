@@ -1,8 +1,8 @@
 -- A line among figures, in a symbol's `element` or in a layer.
+use Rattle.std.specs.Prelude.{Option, Some, None, Result}
 use Prim.Native.Nat.{ℕ, zero, suc, ◌≤◌, ◌<◌, ◌+◌, ◌-◌}
 use mathlib.Core.Bool.{Bool, true, false, cond, ◌&&◌, not}
 use mathlib.Core.List.{List, [], ◌∷◌, ◌++◌, append_assoc, append-nil}
-use mathlib.Core.Option.{Option, none, some}
 use mathlib.Core.Path.{◌≡◌, refl, sym, ◌∙◌, ap, subst}
 use native.Mathlib.Omega.{arith}
 use borrow.Author.Tests.{leb-true}
@@ -40,7 +40,6 @@ use Rattle.entries.specs.declared.Rest.TheVariants as R
 use Rattle.entries.specs.Shapes.{rest_in}
 use Rattle.prints.specs.Reading.{Reads}
 use Rattle.pens.specs.declared.Pen.{Pen}
-use Rattle.pens.specs.declared.Drawn.{Drawn}
 use Rattle.pens.specs.Texts.{ended, Draws}
 use Rattle.pens.specs.Moves.{moved, is_opener, figure_block, table_for}
 use Rattle.pens.specs.Noting.{text_forgotten, figure_notes, Noted, NotedRows, NotedParts}
@@ -54,6 +53,7 @@ use Rattle.volumes.proofs.HomeLaws.{shut-did, key-line, shut-line, served-block,
 use Rattle.volumes.proofs.FrontSteps.{took}
 use Rattle.pens.proofs.NotedLaws.{zeros-at, blank-text, blank-parts, blank-long, blank-at}
 use Rattle.pens.proofs.ShownLaws.{block-parts, figures-more, blocks-one, blocks_last}
+use Rattle.leaves.specs.declared.NoRoom.{NoRoom}
 
 -- ── the table of figures ──
 -- what has `=` is no opener alone
@@ -62,9 +62,9 @@ no-opener at [] = refl
 no-opener at (b ∷ c) = go (stem (b ∷ c))
   where
     go : (o : Option (List ℕ)) → opens_shape (by_stem at (b ∷ c) o) ≡ false
-    go none = refl
-    go (some []) = refl
-    go (some (x ∷ t)) = refl
+    go None = refl
+    go (Some []) = refl
+    go (Some (x ∷ t)) = refl
 
 -- a row of a table stands in another that differs in one row alone, or is that row
 row_other : {P : Type 0} (t : List Rule) (a b : Rule) (u : List Rule) {j : ℕ} {r : Rule} → Row (t ++ a ∷ u) j r → (Row (t ++ b ∷ u) j r → P) → (r ≡ a → P) → P
@@ -237,7 +237,7 @@ module _ (K : Known) (spool : List ℕ) (first : Bool) where
   text-keeps ns i l = get_or-set_other (set ns 4 0) 5 i 0 0 (omega arith) ∙ get_or-set_other ns 4 i 0 0 (omega arith)
 
   module _ (p : Pen) (ns out : List ℕ) (e : Env) (l : Line) (c : e.class ≡ full_class)
-      (st' : State) (ns' out' : List ℕ) (d : Drawn) (size : length out' ≡ length out) (many : length ns' ≡ 28) where
+      (st' : State) (ns' out' : List ℕ) (d : Result Pen NoRoom) (size : length out' ≡ length out) (many : length ns' ≡ 28) where
     -- a figure that is a block
     opened : (s : Set) (h : Home) (fs : List Figure) (z : Pens K spool first p ns out (figures s h fs)) (i : ℕ) (w : List ℕ) → i ≤ 4 → open_figure e l s h fs i ≡ got st'
         → ns' ≡ figure_notes (figure_block (opens i) i) ns → w ≡ open_line (figure_key i)
@@ -342,7 +342,7 @@ module _ (K : Known) (spool : List ℕ) (first : Bool) where
     -- a symbol's `element` closes: `hide` stands before it, or was not read yet
     element-parts : (s : Set) (y : Symbol) (fs : List Figure) → InHome K spool first p ns s (in_element y)
         → parts_text K (symbol_figures fs y) ≡ hidden_part K y ++ block (bytes "element") (show_figures K false figure_table fs) []
-    element-parts s y fs z = ap (λ (b : Bool). ordered (cond b shows [])) z.read ∙ go y.hide_first (is_some (get_or y.own 2 none)) refl refl
+    element-parts s y fs z = ap (λ (b : Bool). ordered (cond b shows [])) z.read ∙ go y.hide_first (is_some (get_or y.own 2 None)) refl refl
       where
         shows : Text
         shows = block (bytes "element") (show_figures K false figure_table fs) []
@@ -350,7 +350,7 @@ module _ (K : Known) (spool : List ℕ) (first : Bool) where
         ordered : Text → Text
         ordered u = cond y.hide_first (hidden_part K y ++ u) (u ++ hidden_part K y)
 
-        go : (f b : Bool) → y.hide_first ≡ f → is_some (get_or y.own 2 none) ≡ b → cond f (hidden_part K y ++ shows) (shows ++ hidden_part K y) ≡ hidden_part K y ++ shows
+        go : (f b : Bool) → y.hide_first ≡ f → is_some (get_or y.own 2 None) ≡ b → cond f (hidden_part K y ++ shows) (shows ++ hidden_part K y) ≡ hidden_part K y ++ shows
         go true b p q = refl
         go false true p q = clash (z.order q) p
         go false false p q = rw q (append-nil shows)

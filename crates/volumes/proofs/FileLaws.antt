@@ -1,8 +1,8 @@
 -- A line in FILE_FORMAT: its rows are noted, and written when it closes.
+use Rattle.std.specs.Prelude.{Option, Some, None, Result, Ok}
 use Prim.Native.Nat.{ℕ, zero, suc, ◌+◌, ◌≤◌, ◌<◌}
 use mathlib.Core.Bool.{Bool, true, false, cond, ◌&&◌}
 use mathlib.Core.List.{List, [], ◌∷◌, ◌++◌}
-use mathlib.Core.Option.{Option, none, some}
 use mathlib.Core.Path.{◌≡◌, refl, sym, ◌∙◌, ap, subst}
 use native.Mathlib.Omega.{arith}
 use borrow.Author.Tests.{ltb-true}
@@ -35,8 +35,6 @@ use Rattle.entries.specs.Shapes.{rest_in}
 use Rattle.entries.specs.Acts.{value_of}
 use Rattle.prints.specs.Reading.{Reads}
 use Rattle.pens.specs.declared.Pen.{Pen}
-use Rattle.pens.specs.declared.Drawn.{Drawn}
-use Rattle.pens.specs.declared.Drawn.TheVariants as D
 use Rattle.pens.specs.Texts.{line_bytes, Draws}
 use Rattle.pens.specs.Moves.{moved, file_pen, file_table_of, table_for}
 use Rattle.pens.specs.Noting.{note_of, rest_of, notes_from, Noted, tables_of, part_table, NotedParts, show_depth}
@@ -49,13 +47,14 @@ use Rattle.pens.proofs.Laying.{bytes-append, on_draws}
 use Rattle.volumes.proofs.Acted.{reads_any, acted}
 use Rattle.pens.proofs.NotedLaws.{noted-line, file-laid, file-tables_of, set-parts}
 use Rattle.pens.proofs.ShownLaws.{held_more}
+use Rattle.leaves.specs.declared.NoRoom.{NoRoom}
 
 -- ── what a line did that drew nothing, or that closed ──
-pub stays : (at : ℕ) (next : Pen) (out out' : List ℕ) (d : Drawn) → at ≤ length out → d ≡ D.Go next → out' ≡ out → Draws [] at next out out' d
+pub stays : (at : ℕ) (next : Pen) (out out' : List ℕ) (d : Result Pen NoRoom) → at ≤ length out → d ≡ Ok next → out' ≡ out → Draws [] at next out out' d
 stays at next out out' d room go same =
-    let none : at + 0 ≡ at = omega arith in
+    let None : at + 0 ≡ at = omega arith in
     record {
-      drawn = λ _. (go, same ∙ sym (ap (λ (n : ℕ). take at out ++ drop n out) none ∙ take-append-drop at out));
+      drawn = λ _. (go, same ∙ sym (ap (λ (n : ℕ). take at out ++ drop n out) None ∙ take-append-drop at out));
       full = λ l. absurd (omega (arith, l, room));
     }
 
@@ -103,7 +102,7 @@ file-table : (first : Bool) (p : Pen) (b : Bool) (i : ℕ) → p.block ≡ 1 →
 file-table first p b i e f l = rw (e, f) (part-number first i l)
 
 -- what such a line promises
-file-done : (t : ℕ) (p : Pen) (rest : CodeRest) (k : Known) (j : ℕ) (r : Rule) (v : Value) (ns ns' out out' : List ℕ) (d : Drawn) → p.block ≡ 1 → KeyDone t p rest k j r v ns ns' out out' d
+file-done : (t : ℕ) (p : Pen) (rest : CodeRest) (k : Known) (j : ℕ) (r : Rule) (v : Value) (ns ns' out out' : List ℕ) (d : Result Pen NoRoom) → p.block ≡ 1 → KeyDone t p rest k j r v ns ns' out out' d
     → Draws [] p.at (file_pen p (opens_block r.holds v) (inner_of r.holds)) out out' d × (ns' ≡ set ns (notes_from t + j) (note_of rest))
 file-done t p rest k j r v ns ns' out out' d e z = (rw e (rw e at z.draws), rw e at z.notes)
 
@@ -157,8 +156,8 @@ module _ (p : Part) (served : ℕ → Bool) (ranged : Ranged p served) where
 
   slot-served : (spool : List ℕ) (k : Known) (r : Rule) (n : ℕ) (o : Option Value) → r.holds ≡ range_kind → r.may ≡ false → Noted spool k r n o
       → served (amount_at (slot_value o) 0) ≡ true
-  slot-served spool k r n none e f z = ranged.unwritten
-  slot-served spool k r n (some v) e f z =
+  slot-served spool k r n None e f z = ranged.unwritten
+  slot-served spool k r n (Some v) e f z =
       let (_, reads) = z in
       let s : Shape = shape_for r (rest_of spool r.holds n) in
       subst (λ (x : Value). served (amount_at x 0) ≡ true) reads.value
@@ -172,8 +171,8 @@ file-served : (spool : List ℕ) (k : Known) (ns : List ℕ) (h : Held) → Note
 unfolding elec_table
 file-served spool k ns h z =
     let rows = (z.parts 3 (omega arith)).rows in (
-      slot-served range_of_symbols served_symbols symbols_ranged spool k (rule_at elec_table 0) (get_or ns (23 + 0) 0) (get_or (part_of h 3) 0 none) refl refl (rows 0 (omega arith)),
-      slot-served range_of_wires served_wires wires_ranged spool k (rule_at elec_table 1) (get_or ns (23 + 1) 0) (get_or (part_of h 3) 1 none) refl refl (rows 1 (omega arith)),
+      slot-served range_of_symbols served_symbols symbols_ranged spool k (rule_at elec_table 0) (get_or ns (23 + 0) 0) (get_or (part_of h 3) 0 None) refl refl (rows 0 (omega arith)),
+      slot-served range_of_wires served_wires wires_ranged spool k (rule_at elec_table 1) (get_or ns (23 + 1) 0) (get_or (part_of h 3) 1 None) refl refl (rows 1 (omega arith)),
     )
 
 -- ── FILE_FORMAT closes ──
@@ -208,7 +207,7 @@ module _ (K : Known) (spool : List ℕ) where
   closed-shown true s n h = ap (λ (u : Text). open_line (bytes "FILE_FORMAT") ∷ u) (held_more K (file_tables true) h (bytes "}" ∷ []))
   closed-shown false s n h = ap (λ (u : Text). open_line (bytes "FILE_FORMAT") ∷ u) (held_more K (file_tables false) h (bytes "}" ∷ []))
 
-module _ (K : Known) (spool : List ℕ) (first : Bool) (p : Pen) (ns out : List ℕ) (s : Set) (n : ℕ) (h : Held) (i : ℕ) (z : Pens K spool first p ns out (file s n h i)) (e : Env) (l : Line) (c : e.class ≡ full_class) (st' : State) (q : step_in e l (file s n h i) ≡ got st') (ns' out' : List ℕ) (d : Drawn) (size : length out' ≡ length out) (many : length ns' ≡ 28) where
+module _ (K : Known) (spool : List ℕ) (first : Bool) (p : Pen) (ns out : List ℕ) (s : Set) (n : ℕ) (h : Held) (i : ℕ) (z : Pens K spool first p ns out (file s n h i)) (e : Env) (l : Line) (c : e.class ≡ full_class) (st' : State) (q : step_in e l (file s n h i) ≡ got st') (ns' out' : List ℕ) (d : Result Pen NoRoom) (size : length out' ≡ length out) (many : length ns' ≡ 28) where
   abbrev table : List Rule
   table = get_or (file_tables first) i []
 

@@ -1,8 +1,8 @@
 -- Steps that the blocks before ELEMENT share.
+use Rattle.std.specs.Prelude.{Option, Some, None, Result}
 use Prim.Native.Nat.{ℕ, ◌+◌}
 use mathlib.Core.Bool.{Bool, true, false, cond}
 use mathlib.Core.List.{List, [], ◌∷◌, append-nil}
-use mathlib.Core.Option.{Option, none, some}
 use mathlib.Core.Path.{◌≡◌, refl, sym, ◌∙◌, ap, subst}
 use lib.ListN.{length, get_or, get_or-map}
 use Rattle.rules.specs.declared.Digits.{Digits}
@@ -17,9 +17,9 @@ use Rattle.rules.specs.Machine.{Env, State, by_act, room_for, taking}
 use Rattle.rules.proofs.Chains.{unless-got, never, clash}
 use Rattle.rules.proofs.Rows.{Row, row_at}
 use Rattle.pens.specs.declared.Pen.{Pen}
-use Rattle.pens.specs.declared.Drawn.{Drawn}
 use Rattle.pens.specs.Texts.{ended, line_bytes, Draws}
 use Rattle.pens.specs.Standing.{Front}
+use Rattle.leaves.specs.declared.NoRoom.{NoRoom}
 
 -- ── taking a line apart ──
 -- records that were taken fitted
@@ -40,18 +40,18 @@ pub row_is : {t : List Rule} {j : ℕ} {r : Rule} → Row t j r → r ≡ rule_a
 row_is w = sym (row_at w (row "" (opens 0) 0))
 
 -- a row that may be read has not been read
-pub unread : (o : Slots) (i : ℕ) → get_or (rows_there o) i false ≡ false → get_or o i none ≡ none
-unread o i e = go (get_or o i none) (sym (get_or-map is_some o i none) ∙ e)
+pub unread : (o : Slots) (i : ℕ) → get_or (rows_there o) i false ≡ false → get_or o i None ≡ None
+unread o i e = go (get_or o i None) (sym (get_or-map is_some o i None) ∙ e)
   where
-    go : (v : Option Value) → is_some v ≡ false → v ≡ none
-    go none e = refl
-    go (some v) e = clash refl e
+    go : (v : Option Value) → is_some v ≡ false → v ≡ None
+    go None e = refl
+    go (Some v) e = clash refl e
 
 -- ── texts of one line ──
 pub line-bytes : (l : List ℕ) → line_bytes (l ∷ []) ≡ ended l
 line-bytes l = append-nil (ended l)
 
-pub draws-line : (l : List ℕ) (at : ℕ) (next : Pen) (before after : List ℕ) (d : Drawn) → Draws (ended l) at next before after d → Draws (line_bytes (l ∷ [])) at next before after d
+pub draws-line : (l : List ℕ) (at : ℕ) (next : Pen) (before after : List ℕ) (d : Result Pen NoRoom) → Draws (ended l) at next before after d → Draws (line_bytes (l ∷ [])) at next before after d
 draws-line l at next before after d w = subst (λ (x : List ℕ). Draws x at next before after d) (sym (line-bytes l)) w
 
 pub line-long : (l : List ℕ) → length (ended l) ≡ length (line_bytes (l ∷ []))

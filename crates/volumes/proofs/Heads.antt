@@ -1,4 +1,5 @@
 -- A volume's head, written piece by piece, and a volume behind it.
+use Rattle.std.specs.Prelude.{Result, Ok, Err}
 use Prim.Native.Nat.{ℕ, zero, suc, ◌+◌, ◌-◌, ◌/◌, ◌%◌, ◌≤◌, ◌<◌}
 use mathlib.Core.Bool.{Bool, true, false, cond, ◌&&◌}
 use mathlib.Core.List.{List, [], ◌∷◌, ◌++◌, append_assoc}
@@ -13,8 +14,6 @@ use Rattle.rules.specs.Spool.{padded_name, name_of, unlines, volume_bytes}
 use Rattle.rules.specs.Values.{Known}
 use Rattle.rules.specs.Machine.{State}
 use Rattle.rules.proofs.Chains.{by_cond}
-use Rattle.leaves.specs.declared.Wrote.{Wrote}
-use Rattle.leaves.specs.declared.Wrote.TheVariants as W
 use Rattle.leaves.specs.Writing.{Puts}
 use Rattle.leaves.proofs.Cuts.{up_to-le}
 use Rattle.lines.specs.VolumeNames.{raw_name, name_at}
@@ -26,6 +25,8 @@ use Rattle.volumes.specs.Volumes.{Fronts, BodyOut, BodyPromise, head_bytes, Volu
 use Rattle.pens.proofs.Behind.{full-not}
 use Rattle.volumes.proofs.LentOutput.{puts-prints, puts-within, lent, back, lent-long, back_is, within-long, put-long, put-laid}
 use Rattle.volumes.proofs.VolumeEnd.{fronts-fit, fronts-none}
+use Rattle.leaves.specs.declared.NoRoom.{NoRoom}
+use Rattle.leaves.specs.NoRoom.{no_room}
 
 abbrev pub blank_head : List ℕ
 blank_head = 86 ∷ 80 ∷ replicate 8 32
@@ -91,7 +92,7 @@ module _ (name : List ℕ) (h : length name ≤ 8) (size : ℕ) (out : List ℕ)
   head-long = omega (arith, length-append (86 ∷ 80 ∷ padded_name name) high-low, padded-long name h)
 
 -- as the code puts it
-pub head-put : (name : List ℕ) (size : ℕ) (out one two three : List ℕ) (a b c : Wrote) → length name ≤ 8 → 12 ≤ length out → Puts blank_head out one a
+pub head-put : (name : List ℕ) (size : ℕ) (out one two three : List ℕ) (a b c : Result ℕ NoRoom) → length name ≤ 8 → 12 ≤ length out → Puts blank_head out one a
     → Puts name (mid_of 2 (length one - 2) one) two b
     → Puts (size / 256 % 256 ∷ size % 256 ∷ []) (mid_of 10 (length (put_mid 2 (length one - 2) one two) - 10) (put_mid 2 (length one - 2) one two)) three c
     → put_mid 10 (length (put_mid 2 (length one - 2) one two) - 10) (put_mid 2 (length one - 2) one two) three ≡ head_bytes name size ++ drop 12 out
@@ -106,22 +107,22 @@ head-put name size out one two three a b c n m p q r =
     ∙ head-laid name n size out
 
 -- ── a volume ──
-pub fronted : (x before after : List ℕ) (n : ℕ) → Fronts x before after (W.Bytes n) → (length x ≤ length before) × (n ≡ length x) × (take (length x) after ≡ x)
+pub fronted : (x before after : List ℕ) (n : ℕ) → Fronts x before after (Ok n) → (length x ≤ length before) × (n ≡ length x) × (take (length x) after ≡ x)
 fronted x before after n w = go (leb (length x) (length before)) refl w.answer
   where
-    go : (b : Bool) → leb (length x) (length before) ≡ b → W.Bytes n ≡ cond b (W.Bytes (length x)) W.Full → (length x ≤ length before) × (n ≡ length x) × (take (length x) after ≡ x)
+    go : (b : Bool) → leb (length x) (length before) ≡ b → Ok n ≡ cond b (Ok (length x)) (Err no_room) → (length x ≤ length before) × (n ≡ length x) × (take (length x) after ≡ x)
     go true q e = let f = leb-true (length x) (length before) q in (f, cc, w.memory f)
     go false q e = full-not (sym e)
 
-pub unfronted : (x before after : List ℕ) → Fronts x before after W.Full → length before < length x
+pub unfronted : (x before after : List ℕ) → Fronts x before after (Err no_room) → length before < length x
 unfronted x before after w = go (leb (length x) (length before)) refl w.answer
   where
-    go : (b : Bool) → leb (length x) (length before) ≡ b → W.Full ≡ cond b (W.Bytes (length x)) W.Full → length before < length x
+    go : (b : Bool) → leb (length x) (length before) ≡ b → (Err no_room) ≡ cond b (Ok (length x)) (Err no_room) → length before < length x
     go true q e = full-not e
     go false q e = leb-false (length x) (length before) q
 
 -- how long the output is with it
-pub volume-kept : (out part : List ℕ) (h : 12 ≤ length out) (r : Wrote) (after name : List ℕ) (n : ℕ) → Within (lent 12 out h) part r → length name ≤ 8 → after ≡ head_bytes name n ++ drop 12 (back 12 out h part) → length after ≡ length out
+pub volume-kept : (out part : List ℕ) (h : 12 ≤ length out) (r : Result ℕ NoRoom) (after name : List ℕ) (n : ℕ) → Within (lent 12 out h) part r → length name ≤ 8 → after ≡ head_bytes name n ++ drop 12 (back 12 out h part) → length after ≡ length out
 volume-kept out part h r after name n w s e =
     ap length e ∙ length-append (head_bytes name n) (drop 12 (back 12 out h part))
     ∙ omega (arith, head-long name s n out, length-drop 12 (back 12 out h part), within-long 12 out h part r w, h)
@@ -136,21 +137,21 @@ module _ (K : Known) (first : Bool) (name : List ℕ) (short : length name ≤ 8
   volume-long : length (volume_bytes name body) ≡ 12 + length body
   volume-long = ap length volume-is ∙ length-append (head_bytes name (length body)) body ∙ ap (λ (n : ℕ). n + length body) (head-long name short (length body) [])
 
-  pub volume-narrow : (before after : List ℕ) → length before < 12 → VolumeOut K first name st before after W.Full
+  pub volume-narrow : (before after : List ℕ) → length before < 12 → VolumeOut K first name st before after (Err no_room)
   volume-narrow before after h = record {
     fronts = fronts-none (volume_bytes name body) before after (omega (arith, h, volume-long));
     served = λ n e. full-not e;
   }
 
   module _ (out part : List ℕ) (h : 12 ≤ length out) where
-    pub volume-full : (after : List ℕ) → BodyOut K first st (lent 12 out h) part W.Full → VolumeOut K first name st out after W.Full
+    pub volume-full : (after : List ℕ) → BodyOut K first st (lent 12 out h) part (Err no_room) → VolumeOut K first name st out after (Err no_room)
     volume-full after w = record {
       fronts = fronts-none (volume_bytes name body) out after (omega (arith, unfronted body (lent 12 out h) part w.fronts, lent-long 12 out h, volume-long, h));
       served = λ n e. full-not e;
     }
 
-    pub volume-wrote : (after : List ℕ) (n : ℕ) → after ≡ head_bytes name n ++ drop 12 (back 12 out h part) → BodyOut K first st (lent 12 out h) part (W.Bytes n)
-        → VolumeOut K first name st out after (W.Bytes (n + 12))
+    pub volume-wrote : (after : List ℕ) (n : ℕ) → after ≡ head_bytes name n ++ drop 12 (back 12 out h part) → BodyOut K first st (lent 12 out h) part (Ok n)
+        → VolumeOut K first name st out after (Ok (n + 12))
     volume-wrote after n e w =
         let (fits, same, is) = fronted body (lent 12 out h) part n w.fronts in
         let H = head_bytes name n in
@@ -170,7 +171,7 @@ module _ (K : Known) (first : Bool) (name : List ℕ) (short : length name ≤ 8
         }
 
 -- what the code promises of a body is what it promises of a volume
-pub volume_promise : (spool body : List ℕ) (start : ℕ) (first : Bool) (before after : List ℕ) (r : Wrote) (within after' : List ℕ) (q : Wrote) → BodyPromise spool body start first within after' q
+pub volume_promise : (spool body : List ℕ) (start : ℕ) (first : Bool) (before after : List ℕ) (r : Result ℕ NoRoom) (within after' : List ℕ) (q : Result ℕ NoRoom) → BodyPromise spool body start first within after' q
     → ((K : Known) (st : State) → BodyOut K first st within after' q → VolumeOut K first (name_at spool start) st before after r)
     → VolumePromise spool body start first before after r
 volume_promise spool body start first before after r within after' q p f K e v next ls s st c a b g = f K st (p K e v next ls s st c a b g)

@@ -1,8 +1,8 @@
 -- A line in a symbol's `hide`.
+use Rattle.std.specs.Prelude.{Option, Some, None, Result}
 use Prim.Native.Nat.{ℕ, ◌+◌}
 use mathlib.Core.Bool.{Bool, true, false}
 use mathlib.Core.List.{List, [], ◌∷◌, ◌++◌, append_assoc, append-nil}
-use mathlib.Core.Option.{Option, none, some}
 use mathlib.Core.Path.{◌≡◌, refl, sym, ◌∙◌, ap, subst}
 use native.Mathlib.Omega.{arith}
 use lib.ListN.{length, get_or}
@@ -29,7 +29,6 @@ use Rattle.prints.specs.Reading.{Reads}
 use Rattle.promises.proofs.Forms.{table-keys}
 use Rattle.promises.proofs.Nameless.{nameless}
 use Rattle.pens.specs.declared.Pen.{Pen}
-use Rattle.pens.specs.declared.Drawn.{Drawn}
 use Rattle.pens.specs.Texts.{ended, Draws}
 use Rattle.pens.specs.Moves.{moved, table_for}
 use Rattle.pens.specs.Keys.{is_brace, KeyDone, KeyLine, PlacedRest}
@@ -41,6 +40,7 @@ use Rattle.pens.proofs.Laying.{on_draws}
 use Rattle.volumes.proofs.Acted.{reads_any, acted}
 use Rattle.pens.proofs.ShownLaws.{points-more, points-last}
 use Rattle.volumes.proofs.FrontSteps.{took, closed, row_is, draws-line, line-long, front-more}
+use Rattle.leaves.specs.declared.NoRoom.{NoRoom}
 
 -- ── the row of a point ──
 point-row : {j : ℕ} {r : Rule} → Row (point_table false) j r → (j ≡ 0) × (r ≡ rule_at (point_table false) 0)
@@ -64,22 +64,22 @@ unfolding table_of
 points-table = refl
 
 -- `hide` stands behind `element`, if that was read before
-parts-hidden : (K : Known) (y : Symbol) → is_some (get_or y.own 2 none) ≡ true → y.hide_first ≡ is_none (get_or y.own 1 none) → parts_text K y ≡ shown_part K y ++ block (bytes "hide") (show_points K false y.hidden) []
-parts-hidden K y read order = go (get_or y.own 1 none) refl
+parts-hidden : (K : Known) (y : Symbol) → is_some (get_or y.own 2 None) ≡ true → y.hide_first ≡ is_none (get_or y.own 1 None) → parts_text K y ≡ shown_part K y ++ block (bytes "hide") (show_points K false y.hidden) []
+parts-hidden K y read order = go (get_or y.own 1 None) refl
   where
-    go : (o : Option Value) → get_or y.own 1 none ≡ o → parts_text K y ≡ shown_part K y ++ block (bytes "hide") (show_points K false y.hidden) []
-    go none e = rw (order, e, read) (append-nil _)
-    go (some v) e = rw (order, e, read)
+    go : (o : Option Value) → get_or y.own 1 None ≡ o → parts_text K y ≡ shown_part K y ++ block (bytes "hide") (show_points K false y.hidden) []
+    go None e = rw (order, e, read) (append-nil _)
+    go (Some v) e = rw (order, e, read)
 
 -- ── what the code does in this block ──
 hide-table : (first : Bool) (p : Pen) (b : Bool) → p.block ≡ 6 → table_for first p b ≡ 15
 hide-table first p b e = rw e
 
-hide-done : (t : ℕ) (p : Pen) (rest : Rest) (K : Known) (r : Rule) (v : Value) (ns ns' out out' : List ℕ) (d : Drawn) → p.block ≡ 6 → KeyDone t p rest K 0 r v ns ns' out out' d
+hide-done : (t : ℕ) (p : Pen) (rest : Rest) (K : Known) (r : Rule) (v : Value) (ns ns' out out' : List ℕ) (d : Result Pen NoRoom) → p.block ≡ 6 → KeyDone t p rest K 0 r v ns ns' out out' d
     → Draws (ended (line_of K r v)) p.at (moved p (length (ended (line_of K r v))) 6 0) out out' d × (ns' ≡ ns)
 hide-done t p rest K r v ns ns' out out' d e w = (rw e at w.draws, rw e at w.notes)
 
-module _ (K : Known) (spool : List ℕ) (first : Bool) (p : Pen) (ns out : List ℕ) (s : Set) (y : Symbol) (ps : List Point) (z : Pens K spool first p ns out (hide s y ps)) (e : Env) (l : Line) (c : e.class ≡ full_class) (st' : State) (q : step_in e l (hide s y ps) ≡ got st') (ns' out' : List ℕ) (d : Drawn) (size : length out' ≡ length out) (many : length ns' ≡ 28) where
+module _ (K : Known) (spool : List ℕ) (first : Bool) (p : Pen) (ns out : List ℕ) (s : Set) (y : Symbol) (ps : List Point) (z : Pens K spool first p ns out (hide s y ps)) (e : Env) (l : Line) (c : e.class ≡ full_class) (st' : State) (q : step_in e l (hide s y ps) ≡ got st') (ns' out' : List ℕ) (d : Result Pen NoRoom) (size : length out' ≡ length out) (many : length ns' ≡ 28) where
   abbrev within : InHide K spool first p ns s y
   within = z.here.1
 

@@ -1,8 +1,8 @@
 -- Lines that are written at once, lines that are noted, and what stands where figures do.
+use Rattle.std.specs.Prelude.{None, Result}
 use Prim.Native.Nat.{ℕ, ◌+◌}
 use mathlib.Core.Bool.{Bool, true, false, cond}
 use mathlib.Core.List.{List, [], ◌∷◌, ◌++◌, append_assoc, append-nil}
-use mathlib.Core.Option.{none}
 use mathlib.Core.Path.{◌≡◌, refl, sym, ◌∙◌, ap, subst}
 use native.Mathlib.Omega.{arith}
 use lib.ListN.{length, get_or}
@@ -18,7 +18,6 @@ use Rattle.rules.specs.FixedForm.{Text, open_line, opens_block, line_of, show_fi
 use Rattle.rules.proofs.Chains.{never}
 use Rattle.entries.specs.declared.Rest.{Rest as CodeRest}
 use Rattle.pens.specs.declared.Pen.{Pen}
-use Rattle.pens.specs.declared.Drawn.{Drawn}
 use Rattle.pens.specs.Texts.{ended, line_bytes, Draws}
 use Rattle.pens.specs.Moves.{moved, at_once, key_pen}
 use Rattle.pens.specs.Noting.{Noted, key_notes}
@@ -29,6 +28,7 @@ use Rattle.pens.specs.Closing.{shut_bytes}
 use Rattle.pens.specs.Drawing.{LineOut}
 use Rattle.pens.proofs.Laying.{on_draws}
 use Rattle.pens.proofs.ShownLaws.{figures-last}
+use Rattle.leaves.specs.declared.NoRoom.{NoRoom}
 
 -- ── answers ──
 -- a record that was taken
@@ -41,7 +41,7 @@ shut-did here en op cl false st q f = never q
 
 -- ── what a line does to the output ──
 module _ (K : Known) (spool : List ℕ) (first : Bool) (p : Pen) (ns out : List ℕ) (st : State) (z : Pens K spool first p ns out st)
-    (st' : State) (next : Pen) (ns' out' : List ℕ) (d : Drawn) (size : length out' ≡ length out) (many : length ns' ≡ 28) where
+    (st' : State) (next : Pen) (ns' out' : List ℕ) (d : Result Pen NoRoom) (size : length out' ≡ length out) (many : length ns' ≡ 28) where
   -- one line more
   pub on_line : (w : List ℕ) → shown K first st' ≡ shown K first st ++ w ∷ [] → Draws (ended w) p.at next out out' d → next.at ≡ p.at + length (ended w)
       → Here K spool first next ns' st' → LineOut K spool first st' ns' out' d
@@ -180,8 +180,8 @@ module _ (K : Known) (first : Bool) where
       front = z.front;
       start = a ∙ z.start;
       slots = z.slots;
-      name = subst (λ (n : ℕ). Noted spool K (rule_at symbol_table 0) n (get_or y.own 0 none)) (sym b) z.name;
-      wall = subst (λ (n : ℕ). Noted spool K (rule_at symbol_table 3) n (get_or y.own 3 none)) (sym c) z.wall;
+      name = subst (λ (n : ℕ). Noted spool K (rule_at symbol_table 0) n (get_or y.own 0 None)) (sym b) z.name;
+      wall = subst (λ (n : ℕ). Noted spool K (rule_at symbol_table 3) n (get_or y.own 3 None)) (sym c) z.wall;
       order = z.order;
     }
 

@@ -1,4 +1,5 @@
 -- One line, in any state: what the code promises of it is what the definitions make of it.
+use Rattle.std.specs.Prelude.{Result, Ok}
 use Prim.Native.Nat.{ℕ, zero, suc}
 use mathlib.Core.Bool.{Bool}
 use mathlib.Core.List.{List, ◌∷◌}
@@ -23,8 +24,6 @@ use Rattle.entries.specs.declared.Rest.{Rest}
 use Rattle.entries.specs.declared.Rest.TheVariants as R
 use Rattle.entries.specs.Shapes.{rest_in}
 use Rattle.pens.specs.declared.Pen.{Pen}
-use Rattle.pens.specs.declared.Drawn.{Drawn}
-use Rattle.pens.specs.declared.Drawn.TheVariants as D
 use Rattle.pens.specs.Keys.{KeyLine, EofLine, PlacedRest}
 use Rattle.pens.specs.KeyWriting.{KeyOrName}
 use Rattle.pens.specs.Closing.{CloseDone, WireDone}
@@ -42,8 +41,9 @@ use Rattle.volumes.proofs.ChainLaws.{successive-key, successive-close}
 use Rattle.volumes.proofs.WireLaws.{wire-key, wire-close}
 use Rattle.volumes.proofs.TextLaws.{texts-key, texts-close}
 use Rattle.volumes.proofs.PlacedLaws.{placing-key, placing-close}
+use Rattle.leaves.specs.declared.NoRoom.{NoRoom}
 
-module _ (K : Known) (spool : List ℕ) (first : Bool) (p : Pen) (ns out : List ℕ) (e : Env) (l : Line) (c : e.class ≡ full_class) (st' : State) (ns' out' : List ℕ) (d : Drawn) (size : length out' ≡ length out) (many : length ns' ≡ 28) where
+module _ (K : Known) (spool : List ℕ) (first : Bool) (p : Pen) (ns out : List ℕ) (e : Env) (l : Line) (c : e.class ≡ full_class) (st' : State) (ns' out' : List ℕ) (d : Result Pen NoRoom) (size : length out' ≡ length out) (many : length ns' ≡ 28) where
   elsewhere : (b : ℕ) → p.block ≡ b → (b ≡ 3 → ⊥) → p.block ≡ 3 → ⊥
   elsewhere b e f h = f (sym e ∙ h)
 
@@ -160,8 +160,8 @@ module _ (K : Known) (spool : List ℕ) (first : Bool) (p : Pen) (ns out : List 
 
 -- ── by the code's form ──
 -- what the code does with a line of this form
-abbrev pub FormDone : List ℕ → List ℕ → ℕ → ℕ → Bool → LineForm → Pen → List ℕ → List ℕ → List ℕ → List ℕ → Drawn → Type 0
-FormDone spool body start from first L.Ignored p ns₀ ns₁ before after d = (d ≡ D.Go p) × (ns₁ ≡ ns₀) × (after ≡ before)
+abbrev pub FormDone : List ℕ → List ℕ → ℕ → ℕ → Bool → LineForm → Pen → List ℕ → List ℕ → List ℕ → List ℕ → Result Pen NoRoom → Type 0
+FormDone spool body start from first L.Ignored p ns₀ ns₁ before after d = (d ≡ Ok p) × (ns₁ ≡ ns₀) × (after ≡ before)
 FormDone spool body start from first L.Close p ns₀ ns₁ before after d = CloseDone spool first p ns₀ before after d × WireDone spool body start from p ns₀ before after d × (ns₁ ≡ ns₀)
 FormDone spool body start from first L.Eof p ns₀ ns₁ before after d = EofLine p before after d × (ns₁ ≡ ns₀)
 FormDone spool body start from first (L.Opens o) p ns₀ ns₁ before after d = KeyOrName spool first o.key R.Brace p ns₀ ns₁ before after d
@@ -169,7 +169,7 @@ FormDone spool body start from first (L.Equals q) p ns₀ ns₁ before after d =
 FormDone spool body start from first (L.Refused r) p ns₀ ns₁ before after d = Unit {0}
 
 -- is what a line is to write
-pub line_law : (spool body : List ℕ) (start from : ℕ) (first : Bool) (form : LineForm) (p : Pen) (ns₀ ns₁ before after : List ℕ) (d : Drawn)
+pub line_law : (spool body : List ℕ) (start from : ℕ) (first : Bool) (form : LineForm) (p : Pen) (ns₀ ns₁ before after : List ℕ) (d : Result Pen NoRoom)
     → length after ≡ length before → length ns₁ ≡ 28 → FormDone spool body start from first form p ns₀ ns₁ before after d → DrawPromise spool body start from first form p ns₀ ns₁ before after d
 line_law spool body start from first L.Ignored p ns₀ ns₁ before after d size many w K e l hs st st' c f placed fits z y q =
     let (go, same, kept) = w in
@@ -189,7 +189,7 @@ line_law spool body start from first (L.Refused r) p ns₀ ns₁ before after d 
     on-wrong K spool first p ns₀ before e l c st' ns₁ after d size many r.number f st q
 
 -- the form is one that is known
-pub line_same : (spool body : List ℕ) (start from : ℕ) (first : Bool) (form f : LineForm) (p : Pen) (ns₀ ns₁ before after : List ℕ) (d : Drawn)
+pub line_same : (spool body : List ℕ) (start from : ℕ) (first : Bool) (form f : LineForm) (p : Pen) (ns₀ ns₁ before after : List ℕ) (d : Result Pen NoRoom)
     → form ≡ f → length after ≡ length before → length ns₁ ≡ 28 → FormDone spool body start from first f p ns₀ ns₁ before after d → DrawPromise spool body start from first form p ns₀ ns₁ before after d
 line_same spool body start from first form f p ns₀ ns₁ before after d e size many w =
     subst (λ (x : LineForm). DrawPromise spool body start from first x p ns₀ ns₁ before after d) (sym e) (line_law spool body start from first f p ns₀ ns₁ before after d size many w)

@@ -1,4 +1,5 @@
 -- A line in a placed symbol's block.
+use Rattle.std.specs.Prelude.{Result, Ok}
 use Prim.Native.Nat.{ℕ, zero, suc, ◌+◌, ◌/◌, ◌%◌, ◌≤◌, ◌<◌}
 use mathlib.Core.Bool.{Bool, true, false, ◌||◌}
 use mathlib.Core.List.{List, [], ◌∷◌, ◌++◌, append_assoc}
@@ -30,8 +31,6 @@ use Rattle.entries.specs.declared.Rest.{Rest as CodeRest}
 use Rattle.entries.specs.Shapes.{rest_in}
 use Rattle.prints.specs.Reading.{Reads}
 use Rattle.pens.specs.declared.Pen.{Pen}
-use Rattle.pens.specs.declared.Drawn.{Drawn}
-use Rattle.pens.specs.declared.Drawn.TheVariants as D
 use Rattle.pens.specs.Texts.{line_bytes, Draws}
 use Rattle.pens.specs.Moves.{moved, placed_pen, key_pen, table_for}
 use Rattle.pens.specs.Noting.{note_of, notes_from, part_table, NotedParts}
@@ -46,6 +45,7 @@ use Rattle.volumes.proofs.HomeLaws.{shut-did, on-nothing, key-noted, notes-at, t
 use Rattle.volumes.proofs.FigureLaws.{no_block}
 use Rattle.pens.proofs.NotedLaws.{noted-line, placed-laid, set-parts}
 use Rattle.pens.proofs.ShownLaws.{opens_nothing, opens_not, held_more}
+use Rattle.leaves.specs.declared.NoRoom.{NoRoom}
 
 -- ── class 15 knows every key, and no range that is served exceeds it ──
 served-full : (n : ℕ) → served_symbols n ≡ true → exceeds (digits_of n) full_class.symbols ≡ false
@@ -111,7 +111,7 @@ unknown here en op cl true st q = never q
 unknown here en op cl false st q = never q
 
 -- a part closes: nothing is written
-pub part_draws : (at : ℕ) (next : Pen) (out out' : List ℕ) (d : Drawn) → at ≤ length out → d ≡ D.Go next → out' ≡ out → Draws [] at next out out' d
+pub part_draws : (at : ℕ) (next : Pen) (out out' : List ℕ) (d : Result Pen NoRoom) → at ≤ length out → d ≡ Ok next → out' ≡ out → Draws [] at next out out' d
 part_draws at next out out' d fits go kept = record {
   drawn = λ _. (go, kept ∙ sym (take-append-drop at out) ∙ ap (λ (n : ℕ). take at out ++ drop n out) {x = at} {y = at + 0} (omega arith));
   full = λ f. absurd (omega (arith, f, fits));
@@ -121,7 +121,7 @@ placed_pen_lem : (p : Pen) (j : ℕ) (d : Kind) (opened : Bool) (inner n : ℕ) 
 placed_pen_lem p j d opened inner n h = rw h
 
 module _ (K : Known) (spool : List ℕ) (first : Bool) (p : Pen) (ns out : List ℕ) (e : Env) (l : Line) (c : e.class ≡ full_class)
-    (st' : State) (ns' out' : List ℕ) (d : Drawn) (size : length out' ≡ length out) (many : length ns' ≡ 28)
+    (st' : State) (ns' out' : List ℕ) (d : Result Pen NoRoom) (size : length out' ≡ length out) (many : length ns' ≡ 28)
     (s : Set) (m : ℕ) (fs : List Figure) (n : ℕ) (o : Held) where
   module _ (i : ℕ) (z : Pens K spool first p ns out (placing s m fs n (symbol_block o) i)) (key : Span) (rest : CodeRest) (place : PlacedRest rest) (line : KeyLine spool first key rest p ns ns' out out' d)
       (j : ℕ) (r : Rule) (v : Value) (f : find (bytes_at spool key) (get_or placed_tables i []) ≡ found j r) (w : Row (get_or placed_tables i []) j r) (u : Reads (known_of s) r (rest_in spool rest) v) where

@@ -1,8 +1,8 @@
 -- The volumes of an accepted set written one behind the other: how far the writing has come, and what one more volume makes of it.
+use Rattle.std.specs.Prelude.{Option, Some, None, Result, Ok, Err}
 use Prim.Native.Nat.{ℕ, suc, ◌+◌, ◌≤◌, ◌<◌}
 use mathlib.Core.Bool.{Bool, true, false}
 use mathlib.Core.List.{List, [], ◌∷◌, ◌++◌, append_assoc, append-nil}
-use mathlib.Core.Option.{Option, none, some}
 use mathlib.Core.Path.{◌≡◌, refl, sym, ◌∙◌, ap, subst}
 use native.Mathlib.Omega.{arith}
 use borrow.Author.Tests.{ne_eqb}
@@ -19,8 +19,6 @@ use Rattle.rules.specs.LineByLine.{Outcome, accepted, run}
 use Rattle.rules.specs.Answers.{next_name, Listed, listed, no_lines, list_volumes, outcome_of_lines, outcome_of_volumes, outcome_of, full_class, names_in, written_in, rewrite_outcome, written}
 use Rattle.rules.proofs.Chains.{clash, cond-some}
 use Rattle.rules.proofs.Runs.{not-accepted}
-use Rattle.leaves.specs.declared.Wrote.{Wrote}
-use Rattle.leaves.specs.declared.Wrote.TheVariants as W
 use Rattle.lines.specs.VolumePlaces.{layout_of}
 use Rattle.lines.proofs.VolumePlaces.{volumes-laid}
 use Rattle.lines.proofs.LinesSeen.{lines-from-start}
@@ -33,16 +31,18 @@ use Rattle.volumes.proofs.VolumeEnd.{fronts-fit, fronts-none}
 use Rattle.volumes.proofs.Heads.{fronted, unfronted, take_after}
 use Rattle.volumes.proofs.VolumeRuns.{Lists, lists_of, After, volume-step, Final, closed-later, more-volumes, rest_final}
 use Rattle.volumes.proofs.SetTexts.{rest_lines, text-between, text-last, volumes-append}
+use Rattle.leaves.specs.declared.NoRoom.{NoRoom}
+use Rattle.leaves.specs.NoRoom.{no_room}
 
 -- as the rewriter reads
 abbrev pub plain_env : Env
-plain_env = record { class = full_class; limit = none }
+plain_env = record { class = full_class; limit = None }
 
 -- ── the reading that was accepted ──
 pub record Accepted (spool : List ℕ) (set : Set) : Type 0 where
   pub volumes : List Volume
   pub lines : List Line
-  pub are : volumes_of spool ≡ some volumes
+  pub are : volumes_of spool ≡ Some volumes
   pub lists : Lists 1 volumes lines
   pub goes : run plain_env (top nothing_yet 0) lines ≡ accepted set
   pub text : written spool ≡ volumes_bytes (names_of volumes) (volume_lines set set.volumes)
@@ -52,8 +52,8 @@ unfolding rewrite_outcome outcome_of written fixed_form
 accepted-so spool set q = go (volumes_of spool) refl q
   where
     go : (o : Option (List Volume)) → volumes_of spool ≡ o → outcome_of_volumes plain_env o ≡ accepted set → Accepted spool set
-    go none p h = not-accepted h
-    go (some vs) p h = on (list_volumes 1 vs) refl h
+    go None p h = not-accepted h
+    go (Some vs) p h = on (list_volumes 1 vs) refl h
       where
         on : (r : Listed) → list_volumes 1 vs ≡ r → outcome_of_lines plain_env r ≡ accepted set → Accepted spool set
         on (no_lines n) l h = not-accepted h
@@ -167,15 +167,15 @@ module _ (spool : List ℕ) (set : Set) (a : Accepted spool set) where
       }
 
   -- ── one more volume ──
-  narrow_of : (o : Option (List (List ℕ))) (ls : List (List ℕ)) → short_lines o ≡ some ls → all (λ l. leb (length l) most_in_line) ls ≡ true
-  narrow_of none ls q = absurd (let z : ◌≡◌ {A = ℕ} 0 1 = cc in omega arith)
-  narrow_of (some us) ls q = let (b, same) = cond-some (all (λ l. leb (length l) most_in_line) us) us ls q in ap (all (λ l. leb (length l) most_in_line)) (sym same) ∙ b
+  narrow_of : (o : Option (List (List ℕ))) (ls : List (List ℕ)) → short_lines o ≡ Some ls → all (λ l. leb (length l) most_in_line) ls ≡ true
+  narrow_of None ls q = absurd (let z : ◌≡◌ {A = ℕ} 0 1 = cc in omega arith)
+  narrow_of (Some us) ls q = let (b, same) = cond-some (all (λ l. leb (length l) most_in_line) us) us ls q in ap (all (λ l. leb (length l) most_in_line)) (sym same) ∙ b
 
-  lines-narrow : (body : List ℕ) (ls : List (List ℕ)) → lines_of body ≡ some ls → all (λ l. leb (length l) most_in_line) ls ≡ true
+  lines-narrow : (body : List ℕ) (ls : List (List ℕ)) → lines_of body ≡ Some ls → all (λ l. leb (length l) most_in_line) ls ≡ true
   unfolding lines_of
   lines-narrow body ls q = narrow_of (lines_from false body) ls q
 
-  lines_at : (i : ℕ) (v : Volume) (us : List Volume) (ls : List (List ℕ)) → drop i a.volumes ≡ v ∷ us → lines_of v.body ≡ some ls → LinesAt spool v.body v.place v.place ls
+  lines_at : (i : ℕ) (v : Volume) (us : List Volume) (ls : List (List ℕ)) → drop i a.volumes ≡ v ∷ us → lines_of v.body ≡ Some ls → LinesAt spool v.body v.place v.place ls
   lines_at i v us ls d q =
       let w = volume_in spool a.volumes a.are i v us d in
       record {
@@ -188,7 +188,7 @@ module _ (spool : List ℕ) (set : Set) (a : Accepted spool set) where
       }
 
   module _ (i at : ℕ) (out : List ℕ) (h : at ≤ length out) (x : Done i at out) (body : List ℕ) (place : ℕ) (below : i < length a.volumes)
-      (placed : get_or (layout_of (volumes_of spool)).places i 0 ≡ place) (held : body ≡ take (get_or (layout_of (volumes_of spool)).lengths i 0) (drop place spool)) (part : List ℕ) (r : Wrote)
+      (placed : get_or (layout_of (volumes_of spool)).places i 0 ≡ place) (held : body ≡ take (get_or (layout_of (volumes_of spool)).lengths i 0) (drop place spool)) (part : List ℕ) (r : Result ℕ NoRoom)
       (promise : VolumePromise spool body place (eqb i 0) (lent at out h) part r) where
     -- the volume, its text, and those behind it
     record Turn : Type 0 where
@@ -240,7 +240,7 @@ module _ (spool : List ℕ) (set : Set) (a : Accepted spool set) where
         ∙ ap (λ (vs : List Volume). volumes_bytes x.names x.texts ++ volumes_bytes (names_of vs) (rest_lines plain_env set (eqb i 0) x.cs)) z.is
         ∙ ap (λ (ts : List Text). volumes_bytes x.names x.texts ++ volumes_bytes (names_of (z.volume ∷ z.us)) ts) z.behind_it.text
 
-    pub turn-full : (before after : List ℕ) → length out ≡ length before → r ≡ W.Full → Fronts (written spool) before after W.Full
+    pub turn-full : (before after : List ℕ) → length out ≡ length before → r ≡ (Err no_room) → Fronts (written spool) before after (Err no_room)
     turn-full before after long e =
         let f = unfronted new (lent at out h) part (subst (Fronts new (lent at out h) part) e z.out-is.fronts) in
         fronts-none (written spool) before after
@@ -256,7 +256,7 @@ module _ (spool : List ℕ) (set : Set) (a : Accepted spool set) where
           h,
         ))
 
-    pub turn_on : (n : ℕ) → r ≡ W.Bytes n → Done (suc i) (at + n) (back at out h part)
+    pub turn_on : (n : ℕ) → r ≡ Ok n → Done (suc i) (at + n) (back at out h part)
     turn_on n e =
         let (fits, same, is) = fronted new (lent at out h) part n (subst (Fronts new (lent at out h) part) e z.out-is.fronts) in
         let text : Text = shown (known_of set) (eqb i 0) z.state in
@@ -290,7 +290,7 @@ module _ (spool : List ℕ) (set : Set) (a : Accepted spool set) where
             ap (λ (m : ℕ). drop m a.volumes) (sym one) ∙ sym (drop-drop 1 i a.volumes) ∙ ap (drop 1) (x.left ∙ z.is)
 
   -- ── all volumes ──
-  pub all_done : (i at : ℕ) (before out : List ℕ) → Done i at out → length a.volumes ≤ i → at ≤ length before → Fronts (written spool) before out (W.Bytes at)
+  pub all_done : (i at : ℕ) (before out : List ℕ) → Done i at out → length a.volumes ≤ i → at ≤ length before → Fronts (written spool) before out (Ok at)
   all_done i at before out x most h =
       let none_left : x.rest ≡ [] = nothing x.rest (ap length (sym x.left) ∙ length-drop i a.volumes ∙ omega (arith, most)) in
       let no-contents : x.cs ≡ [] = nothing x.cs (x.many ∙ ap length none_left) in

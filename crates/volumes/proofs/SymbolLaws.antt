@@ -1,8 +1,8 @@
 -- A line in a symbol.
+use Rattle.std.specs.Prelude.{Option, Some, None, Result}
 use Prim.Native.Nat.{ℕ, zero, suc, ◌+◌, ◌<◌}
 use mathlib.Core.Bool.{Bool, true, false, cond}
 use mathlib.Core.List.{List, [], ◌∷◌, ◌++◌, append_assoc, append-nil}
-use mathlib.Core.Option.{Option, none, some}
 use mathlib.Core.Path.{◌≡◌, refl, sym, ◌∙◌, ap, subst}
 use native.Mathlib.Omega.{arith}
 use lib.ListN.{length, get_or, set, length-set, length-append}
@@ -31,7 +31,6 @@ use Rattle.prints.specs.Reading.{Reads}
 use Rattle.promises.proofs.Forms.{table-keys}
 use Rattle.promises.proofs.Nameless.{nameless}
 use Rattle.pens.specs.declared.Pen.{Pen}
-use Rattle.pens.specs.declared.Drawn.{Drawn}
 use Rattle.pens.specs.Texts.{ended, line_bytes, Draws, Inserts}
 use Rattle.pens.specs.Moves.{moved, among_figures, table_for}
 use Rattle.pens.specs.Noting.{note_of, Noted}
@@ -45,6 +44,7 @@ use Rattle.volumes.proofs.Acted.{reads_any, acted}
 use Rattle.pens.proofs.NotedLaws.{noted-line}
 use Rattle.pens.proofs.ShownLaws.{block_more, points-more, figures-more, symbols-last}
 use Rattle.volumes.proofs.FrontSteps.{closed, row_is, unread, still}
+use Rattle.leaves.specs.declared.NoRoom.{NoRoom}
 
 -- ── the four rows ──
 abbrev rule : ℕ → Rule
@@ -73,7 +73,7 @@ unfolding table_of
 symbol-table first p b e = rw e
 
 -- ── what the code does in this block ──
-module _ (first b : Bool) (p : Pen) (rest : Rest) (K : Known) (r : Rule) (v : Value) (ns ns' out out' : List ℕ) (d : Drawn) (e : p.block ≡ 5) where
+module _ (first b : Bool) (p : Pen) (rest : Rest) (K : Known) (r : Rule) (v : Value) (ns ns' out out' : List ℕ) (d : Result Pen NoRoom) (e : p.block ≡ 5) where
   name_done : KeyDone (table_for first p b) p rest K 0 r v ns ns' out out' d → Draws [] p.at (still p 5) out out' d × (ns' ≡ set ns 0 (note_of rest))
   name_done w = (rw e at w.draws, rw e at w.notes)
 
@@ -91,11 +91,11 @@ module _ (first b : Bool) (p : Pen) (rest : Rest) (K : Known) (r : Rule) (v : Va
 -- ── what is shown of `element` and `hide` ──
 module _ (K : Known) (y : Symbol) where
   -- it does not depend on the other rows
-  same_parts : (o : Slots) → get_or o 1 none ≡ get_or y.own 1 none → get_or o 2 none ≡ get_or y.own 2 none → parts_text K (symbol_own o y) ≡ parts_text K y
+  same_parts : (o : Slots) → get_or o 1 None ≡ get_or y.own 1 None → get_or o 2 None ≡ get_or y.own 2 None → parts_text K (symbol_own o y) ≡ parts_text K y
   same_parts o a b = rw (a, b)
 
   -- `hide` alone, `element` alone
-  hidden-alone : get_or y.own 1 none ≡ none → parts_text K y ≡ hidden_part K y
+  hidden-alone : get_or y.own 1 None ≡ None → parts_text K y ≡ hidden_part K y
   hidden-alone a = go y.hide_first
     where
       gone : shown_part K y ≡ []
@@ -105,7 +105,7 @@ module _ (K : Known) (y : Symbol) where
       go true = ap (λ (u : Text). hidden_part K y ++ u) gone ∙ append-nil (hidden_part K y)
       go false = ap (λ (u : Text). u ++ hidden_part K y) gone
 
-  shown-alone : get_or y.own 2 none ≡ none → parts_text K y ≡ shown_part K y
+  shown-alone : get_or y.own 2 None ≡ None → parts_text K y ≡ shown_part K y
   shown-alone a = go y.hide_first
     where
       gone : hidden_part K y ≡ []
@@ -117,14 +117,14 @@ module _ (K : Known) (y : Symbol) where
 
 -- ── a symbol that is closed: its name, `element` and `hide` in the order written, `wall` ──
 abbrev row_text : Known → Rule → Option Value → Text
-row_text K r none = []
-row_text K r (some v) = line_of K r v ∷ []
+row_text K r None = []
+row_text K r (Some v) = line_of K r v ∷ []
 
 row-bytes : (K : Known) (r : Rule) (o : Option Value) → line_bytes (row_text K r o) ≡ row_bytes K r o
-row-bytes K r none = refl
-row-bytes K r (some v) = append-nil (ended (line_of K r v))
+row-bytes K r None = refl
+row-bytes K r (Some v) = append-nil (ended (line_of K r v))
 
-four-slots : (o : Slots) → length o ≡ 4 → o ≡ get_or o 0 none ∷ get_or o 1 none ∷ get_or o 2 none ∷ get_or o 3 none ∷ []
+four-slots : (o : Slots) → length o ≡ 4 → o ≡ get_or o 0 None ∷ get_or o 1 None ∷ get_or o 2 None ∷ get_or o 3 None ∷ []
 four-slots [] e = absurd (omega (arith, e))
 four-slots (a ∷ []) e = absurd (omega (arith, e))
 four-slots (a ∷ b ∷ []) e = absurd (omega (arith, e))
@@ -141,23 +141,23 @@ module _ (K : Known) (y : Symbol) where
 
   name-slot : (o : Option Value) (ls : Text) → show_slot K (rule 0) o (symbol_inner K y) ls ≡ row_text K (rule 0) o ++ ls
   unfolding symbol_table
-  name-slot none ls = refl
-  name-slot (some v) ls = refl
+  name-slot None ls = refl
+  name-slot (Some v) ls = refl
 
   wall-slot : (o : Option Value) (ls : Text) → show_slot K (rule 3) o (symbol_inner K y) ls ≡ row_text K (rule 3) o ++ ls
   unfolding symbol_table
-  wall-slot none ls = refl
-  wall-slot (some v) ls = refl
+  wall-slot None ls = refl
+  wall-slot (Some v) ls = refl
 
   element-slot : (o : Option Value) (ls : Text) → show_slot K (rule 1) o (symbol_inner K y) ls ≡ element_text o ++ ls
   unfolding symbol_table
-  element-slot none ls = refl
-  element-slot (some v) ls = block_more (bytes "element") (show_figures K false figure_table y.figures) (figures-more K false figure_table y.figures) ls
+  element-slot None ls = refl
+  element-slot (Some v) ls = block_more (bytes "element") (show_figures K false figure_table y.figures) (figures-more K false figure_table y.figures) ls
 
   hide-slot : (o : Option Value) (ls : Text) → show_slot K (rule 2) o (symbol_inner K y) ls ≡ hide_text o ++ ls
   unfolding symbol_table
-  hide-slot none ls = refl
-  hide-slot (some v) ls = block_more (bytes "hide") (show_points K false y.hidden) (points-more K false y.hidden) ls
+  hide-slot None ls = refl
+  hide-slot (Some v) ls = block_more (bytes "hide") (show_points K false y.hidden) (points-more K false y.hidden) ls
 
   rows-order : (t : Bool) (a b c w : Option Value) (ls : Text)
       → show_slots K (exchanged t symbol_table) (exchanged t (a ∷ b ∷ c ∷ w ∷ [])) (symbol_inner K y) ls
@@ -177,30 +177,30 @@ module _ (K : Known) (y : Symbol) where
       ∙ sym (append_assoc (element_text b) (hide_text c) (row_text K (rule 3) w ++ ls)))
 
   abbrev pub name_text : Text
-  name_text = row_text K (rule 0) (get_or y.own 0 none)
+  name_text = row_text K (rule 0) (get_or y.own 0 None)
 
   abbrev pub end_text : Text
-  end_text = row_text K (rule 3) (get_or y.own 3 none) ++ bytes "}" ∷ []
+  end_text = row_text K (rule 3) (get_or y.own 3 None) ++ bytes "}" ∷ []
 
   pub symbol-text : length y.own ≡ 4 → show_symbol K y [] ≡ open_line (bytes "E_symbol") ∷ (name_text ++ (parts_text K y ++ end_text))
   symbol-text four =
       ap (λ (u : Text). open_line (bytes "E_symbol") ∷ u)
       (ap (λ (o : Slots). show_slots K (exchanged y.hide_first symbol_table) (exchanged y.hide_first o) (symbol_inner K y) (bytes "}" ∷ [])) (four-slots y.own four)
-      ∙ rows-order y.hide_first (get_or y.own 0 none) (get_or y.own 1 none) (get_or y.own 2 none) (get_or y.own 3 none) (bytes "}" ∷ []))
+      ∙ rows-order y.hide_first (get_or y.own 0 None) (get_or y.own 1 None) (get_or y.own 2 None) (get_or y.own 3 None) (bytes "}" ∷ []))
 
-module _ (K : Known) (spool : List ℕ) (first : Bool) (p : Pen) (ns out : List ℕ) (s : Set) (y : Symbol) (z : Pens K spool first p ns out (symbol s y)) (e : Env) (l : Line) (c : e.class ≡ full_class) (st' : State) (q : step_in e l (symbol s y) ≡ got st') (ns' out' : List ℕ) (d : Drawn) (size : length out' ≡ length out) (many : length ns' ≡ 28) where
+module _ (K : Known) (spool : List ℕ) (first : Bool) (p : Pen) (ns out : List ℕ) (s : Set) (y : Symbol) (z : Pens K spool first p ns out (symbol s y)) (e : Env) (l : Line) (c : e.class ≡ full_class) (st' : State) (q : step_in e l (symbol s y) ≡ got st') (ns' out' : List ℕ) (d : Result Pen NoRoom) (size : length out' ≡ length out) (many : length ns' ≡ 28) where
   abbrev within : InSymbol K spool first p ns s y
   within = z.here.1
 
   abbrev with_row : ℕ → Value → Symbol
-  with_row j v = symbol_own (set y.own j (some v)) y
+  with_row j v = symbol_own (set y.own j (Some v)) y
 
   -- another row is as it was
-  other-slot : (j i : ℕ) (v : Value) → (i ≡ j → ⊥) → get_or (with_row j v).own i none ≡ get_or y.own i none
-  other-slot j i v n = get_or-set_other y.own j i (some v) none n
+  other-slot : (j i : ℕ) (v : Value) → (i ≡ j → ⊥) → get_or (with_row j v).own i None ≡ get_or y.own i None
+  other-slot j i v n = get_or-set_other y.own j i (Some v) None n
 
-  this-slot : (j : ℕ) (v : Value) → j < 4 → get_or (with_row j v).own j none ≡ some v
-  this-slot j v m = get_or-set_same y.own j (some v) none (omega (arith, m, within.slots))
+  this-slot : (j : ℕ) (v : Value) → j < 4 → get_or (with_row j v).own j None ≡ Some v
+  this-slot j v m = get_or-set_same y.own j (Some v) None (omega (arith, m, within.slots))
 
   -- ── `name` and `wall` are noted ──
   noted-shown : (j : ℕ) (v : Value) → (1 ≡ j → ⊥) → (2 ≡ j → ⊥) → shown K first (symbol s (with_row j v)) ≡ shown K first (symbol s y) ++ []
@@ -213,24 +213,24 @@ module _ (K : Known) (spool : List ℕ) (first : Bool) (p : Pen) (ns out : List 
       on_draws K spool first p ns out (symbol s y) z [] (symbol s (with_row j v)) (still p 5) ns' out' d size (noted-shown j v a b) w (omega arith) many (refl, h)
 
   -- its `element` and `hide` are as they were
-  noted-order : (j : ℕ) (v : Value) → (1 ≡ j → ⊥) → (2 ≡ j → ⊥) → is_none (get_or (with_row j v).own 1 none) ≡ true → is_some (get_or (with_row j v).own 2 none) ≡ true → y.hide_first ≡ true
+  noted-order : (j : ℕ) (v : Value) → (1 ≡ j → ⊥) → (2 ≡ j → ⊥) → is_none (get_or (with_row j v).own 1 None) ≡ true → is_some (get_or (with_row j v).own 2 None) ≡ true → y.hide_first ≡ true
   noted-order j v a b m n = within.order (ap is_none (sym (other-slot j 1 v a)) ∙ m) (ap is_some (sym (other-slot j 2 v b)) ∙ n)
 
-  name-stands : (v : Value) (n : ℕ) → ns' ≡ set ns 0 n → Noted spool K (rule 0) n (some v) → InSymbol K spool first (still p 5) ns' s (with_row 0 v)
+  name-stands : (v : Value) (n : ℕ) → ns' ≡ set ns 0 n → Noted spool K (rule 0) n (Some v) → InSymbol K spool first (still p 5) ns' s (with_row 0 v)
   name-stands v n m w = record {
     front = within.front;
     start = within.start;
-    slots = length-set y.own 0 (some v) ∙ within.slots;
+    slots = length-set y.own 0 (Some v) ∙ within.slots;
     name = rw (m, get_or-set_same ns 0 n 0 (omega (arith, z.many)), this-slot 0 v (omega arith)) w;
     wall = rw (m, get_or-set_other ns 0 3 n 0 (λ a. omega (arith, a)), other-slot 0 3 v (λ a. omega (arith, a))) within.wall;
     order = noted-order 0 v (λ a. omega (arith, a)) (λ a. omega (arith, a));
   }
 
-  wall-stands : (v : Value) (n : ℕ) → ns' ≡ set ns 3 n → Noted spool K (rule 3) n (some v) → InSymbol K spool first (still p 5) ns' s (with_row 3 v)
+  wall-stands : (v : Value) (n : ℕ) → ns' ≡ set ns 3 n → Noted spool K (rule 3) n (Some v) → InSymbol K spool first (still p 5) ns' s (with_row 3 v)
   wall-stands v n m w = record {
     front = within.front;
     start = within.start;
-    slots = length-set y.own 3 (some v) ∙ within.slots;
+    slots = length-set y.own 3 (Some v) ∙ within.slots;
     name = rw (m, get_or-set_other ns 3 0 n 0 (λ a. omega (arith, a)), other-slot 3 0 v (λ a. omega (arith, a))) within.name;
     wall = rw (m, get_or-set_same ns 3 n 0 (omega (arith, z.many)), this-slot 3 v (omega arith)) w;
     order = noted-order 3 v (λ a. omega (arith, a)) (λ a. omega (arith, a));
@@ -240,18 +240,18 @@ module _ (K : Known) (spool : List ℕ) (first : Bool) (p : Pen) (ns out : List 
   abbrev among : Value → State
   among v = figures s (in_element (with_row 1 v)) []
 
-  element-shown : (v : Value) → get_or y.own 1 none ≡ none → shown K first (among v) ≡ shown K first (symbol s y) ++ open_line (bytes "element") ∷ []
+  element-shown : (v : Value) → get_or y.own 1 None ≡ None → shown K first (among v) ≡ shown K first (symbol s y) ++ open_line (bytes "element") ∷ []
   element-shown v a =
       append-nil (symbol_begun K s ++ hidden_part K (with_row 1 v) ++ open_line (bytes "element") ∷ [])
       ∙ ap (λ (u : Text). symbol_begun K s ++ u ++ open_line (bytes "element") ∷ [])
       (ap (λ (o : Option Value). cond (is_some o) (block (bytes "hide") (show_points K false y.hidden) []) []) (other-slot 1 2 v (λ i. omega (arith, i))) ∙ sym (hidden-alone K y a))
 
-  element-stands : (v : Value) (n : ℕ) → get_or y.own 1 none ≡ none → InElement K spool first (among_figures p n false) ns s (with_row 1 v)
+  element-stands : (v : Value) (n : ℕ) → get_or y.own 1 None ≡ None → InElement K spool first (among_figures p n false) ns s (with_row 1 v)
   element-stands v n a = record {
     in-symbol = record {
       front = within.front;
       start = within.start;
-      slots = length-set y.own 1 (some v) ∙ within.slots;
+      slots = length-set y.own 1 (Some v) ∙ within.slots;
       name = rw (other-slot 1 0 v (λ i. omega (arith, i))) within.name;
       wall = rw (other-slot 1 3 v (λ i. omega (arith, i))) within.wall;
       order = λ i m. clash i (ap is_none (this-slot 1 v (omega arith)));
@@ -261,7 +261,7 @@ module _ (K : Known) (spool : List ℕ) (first : Bool) (p : Pen) (ns out : List 
     order = λ i. within.order (ap is_none a) (ap is_some (sym (other-slot 1 2 v (λ i. omega (arith, i)))) ∙ i);
   }
 
-  element-drawn : (v : Value) → get_or y.own 1 none ≡ none → Draws (ended (open_line (bytes "element"))) p.at (among_figures p (length (ended (open_line (bytes "element")))) false) out out' d → ns' ≡ ns
+  element-drawn : (v : Value) → get_or y.own 1 None ≡ None → Draws (ended (open_line (bytes "element"))) p.at (among_figures p (length (ended (open_line (bytes "element")))) false) out out' d → ns' ≡ ns
       → LineOut K spool first (among v) ns' out' d
   element-drawn v a w n =
       on_draws K spool first p ns out (symbol s y) z (open_line (bytes "element") ∷ []) (among v) (among_figures p 11 false) ns' out' d size (element-shown v a) w refl many
@@ -269,9 +269,9 @@ module _ (K : Known) (spool : List ℕ) (first : Bool) (p : Pen) (ns out : List 
 
   -- ── `hide` opens ──
   abbrev ordered : Value → Symbol
-  ordered v = symbol_order (is_none (get_or (with_row 2 v).own 1 none)) (with_row 2 v)
+  ordered v = symbol_order (is_none (get_or (with_row 2 v).own 1 None)) (with_row 2 v)
 
-  hide-shown : (v : Value) → get_or y.own 2 none ≡ none → shown K first (hide s (ordered v) []) ≡ shown K first (symbol s y) ++ open_line (bytes "hide") ∷ []
+  hide-shown : (v : Value) → get_or y.own 2 None ≡ None → shown K first (hide s (ordered v) []) ≡ shown K first (symbol s y) ++ open_line (bytes "hide") ∷ []
   hide-shown v a =
       ap (λ (u : Text). symbol_begun K s ++ u ++ open_line (bytes "hide") ∷ [])
       (ap (λ (o : Option Value). cond (is_some o) (block (bytes "element") (show_figures K false figure_table y.figures) []) []) (other-slot 2 1 v (λ i. omega (arith, i))) ∙ sym (shown-alone K y a))
@@ -281,7 +281,7 @@ module _ (K : Known) (spool : List ℕ) (first : Bool) (p : Pen) (ns out : List 
     in-symbol = record {
       front = within.front;
       start = within.start;
-      slots = length-set y.own 2 (some v) ∙ within.slots;
+      slots = length-set y.own 2 (Some v) ∙ within.slots;
       name = rw (other-slot 2 0 v (λ i. omega (arith, i))) within.name;
       wall = rw (other-slot 2 3 v (λ i. omega (arith, i))) within.wall;
       order = λ i m. i;
@@ -290,7 +290,7 @@ module _ (K : Known) (spool : List ℕ) (first : Bool) (p : Pen) (ns out : List 
     order = refl;
   }
 
-  hide-drawn : (v : Value) → get_or y.own 2 none ≡ none → Draws (ended (open_line (bytes "hide"))) p.at (moved p (length (ended (open_line (bytes "hide")))) 6 0) out out' d → ns' ≡ ns
+  hide-drawn : (v : Value) → get_or y.own 2 None ≡ None → Draws (ended (open_line (bytes "hide"))) p.at (moved p (length (ended (open_line (bytes "hide")))) 6 0) out out' d → ns' ≡ ns
       → LineOut K spool first (hide s (ordered v) []) ns' out' d
   hide-drawn v a w n =
       on_draws K spool first p ns out (symbol s y) z (open_line (bytes "hide") ∷ []) (hide s (ordered v) []) (moved p 8 6 0) ns' out' d size (hide-shown v a) w refl many
@@ -359,8 +359,8 @@ module _ (K : Known) (spool : List ℕ) (first : Bool) (p : Pen) (ns out : List 
       ∙ sym (append_assoc ahead (head ∷ show_symbols K s.symbols []) (open_line (bytes "E_symbol") ∷ (name_text K y ++ (parts_text K y ++ end_text K y))))
       ∙ sym (append_assoc (defines_begun K s false) (open_line (bytes "E_symbol") ∷ []) (name_text K y ++ (parts_text K y ++ end_text K y)))
 
-  end-bytes : line_bytes (end_text K y) ≡ row_bytes K (rule 3) (get_or y.own 3 none) ++ shut_bytes
-  end-bytes = bytes-append (row_text K (rule 3) (get_or y.own 3 none)) (bytes "}" ∷ []) ∙ ap (λ (u : List ℕ). u ++ shut_bytes) (row-bytes K (rule 3) (get_or y.own 3 none))
+  end-bytes : line_bytes (end_text K y) ≡ row_bytes K (rule 3) (get_or y.own 3 None) ++ shut_bytes
+  end-bytes = bytes-append (row_text K (rule 3) (get_or y.own 3 None)) (bytes "}" ∷ []) ∙ ap (λ (u : List ℕ). u ++ shut_bytes) (row-bytes K (rule 3) (get_or y.own 3 None))
 
   pub symbol-close : l.form ≡ close → CloseDone spool first p ns out out' d → ns' ≡ ns → LineOut K spool first st' ns' out' d
   symbol-close f does n =
@@ -368,13 +368,13 @@ module _ (K : Known) (spool : List ℕ) (first : Bool) (p : Pen) (ns out : List 
       closed (symbol s y) (λ j v. unless (new_name s (with_row j v)) 15 (got (symbol s (with_row j v)))) (λ i j v. open_symbol s (with_row j v) i) (got (defines (with_symbol y s) false))
       (known_of s) symbol_table (digits_of (define_range s)) (rows_there y.own) st' (rw f at q) in
       let st : with_symbols ≡ st' = cc in
-      let a : List ℕ = row_bytes K (rule 0) (get_or y.own 0 none) in
-      let b : List ℕ = row_bytes K (rule 3) (get_or y.own 3 none) in
+      let a : List ℕ = row_bytes K (rule 0) (get_or y.own 0 None) in
+      let b : List ℕ = row_bytes K (rule 3) (get_or y.own 3 None) in
       let next : Pen = moved p (length a + (length b + 3)) 4 0 in
-      let w : Inserts a (b ++ shut_bytes) p.start p.at next out out' d = does.symbol z.here.0 K (get_or y.own 0 none) (get_or y.own 3 none) within.name within.wall in
-      let w' : Inserts (line_bytes (name_text K y)) (line_bytes (end_text K y)) p.start p.at next out out' d = rw (row-bytes K (rule 0) (get_or y.own 0 none), end-bytes) w in
+      let w : Inserts a (b ++ shut_bytes) p.start p.at next out out' d = does.symbol z.here.0 K (get_or y.own 0 None) (get_or y.own 3 None) within.name within.wall in
+      let w' : Inserts (line_bytes (name_text K y)) (line_bytes (end_text K y)) p.start p.at next out out' d = rw (row-bytes K (rule 0) (get_or y.own 0 None), end-bytes) w in
       let front = within.front in
       subst (λ (a : State). LineOut K spool first a ns' out' d) st
       (on_inserts K spool first p ns out (symbol s y) z (symbol_begun K s) (parts_text K y) (name_text K y) (end_text K y) with_symbols next ns' out' d size refl close-shown within.start w'
-      (omega (arith, ap length (row-bytes K (rule 0) (get_or y.own 0 none)), ap length end-bytes, length-append b shut_bytes)) many
+      (omega (arith, ap length (row-bytes K (rule 0) (get_or y.own 0 None)), ap length end-bytes, length-append b shut_bytes)) many
       (refl, record { volume = front.volume; alone = front.alone; empty = front.empty; served = front.served }, λ i. clash i refl))

@@ -1,8 +1,8 @@
 -- A line in a figure's `text`.
+use Rattle.std.specs.Prelude.{Some, Result}
 use Prim.Native.Nat.{ℕ, ◌+◌, ◌<◌}
 use mathlib.Core.Bool.{Bool, true, false, cond, ◌&&◌}
 use mathlib.Core.List.{List, [], ◌∷◌, ◌++◌, append_assoc}
-use mathlib.Core.Option.{some}
 use mathlib.Core.Path.{◌≡◌, refl, sym, ◌∙◌, ap, subst}
 use native.Mathlib.Omega.{arith}
 use lib.ListN.{length, get_or, set}
@@ -30,7 +30,6 @@ use Rattle.entries.specs.declared.Rest.{Rest as CodeRest}
 use Rattle.entries.specs.Shapes.{rest_in}
 use Rattle.prints.specs.Reading.{Reads}
 use Rattle.pens.specs.declared.Pen.{Pen}
-use Rattle.pens.specs.declared.Drawn.{Drawn}
 use Rattle.pens.specs.Texts.{line_bytes, Draws}
 use Rattle.pens.specs.Moves.{moved, table_for}
 use Rattle.pens.specs.Noting.{note_of, notes_from, Noted, NotedRows}
@@ -45,6 +44,7 @@ use Rattle.volumes.proofs.HomeLaws.{shut-did, key-noted, notes-at, text-more, ho
 use Rattle.volumes.proofs.FigureLaws.{text-rows}
 use Rattle.pens.proofs.NotedLaws.{noted-line, set-rows}
 use Rattle.pens.proofs.TextRows.{text-parts, text-bytes}
+use Rattle.leaves.specs.declared.NoRoom.{NoRoom}
 
 text-table : (first : Bool) (p : Pen) (b c : Bool) → p.block ≡ 10 → p.layered ≡ b → (table_of (table_for first p c) ≡ text_table b 4 12) × (notes_from (table_for first p c) ≡ 4)
 unfolding table_of
@@ -52,7 +52,7 @@ text-table first p true c h l = (rw (h, l), rw (h, l))
 text-table first p false c h l = (rw (h, l), rw (h, l))
 
 module _ (K : Known) (spool : List ℕ) (first : Bool) (p : Pen) (ns out : List ℕ) (e : Env) (l : Line) (c : e.class ≡ full_class)
-    (st' : State) (ns' out' : List ℕ) (d : Drawn) (size : length out' ≡ length out) (many : length ns' ≡ 28)
+    (st' : State) (ns' out' : List ℕ) (d : Result Pen NoRoom) (size : length out' ≡ length out) (many : length ns' ≡ 28)
     (s : Set) (h : Home) (fs : List Figure) (n : ℕ) (o : Slots) (z : Pens K spool first p ns out (texts s h fs n o)) (q : step_in e l (texts s h fs n o) ≡ got st') where
   pub texts-key : (key : Span) (rest : CodeRest) → l.form ≡ keyed (bytes_at spool key) (rest_in spool rest) → PlacedRest rest → FormFits l.form
       → KeyLine spool first key rest p ns ns' out out' d → LineOut K spool first st' ns' out' d
@@ -62,7 +62,7 @@ module _ (K : Known) (spool : List ℕ) (first : Bool) (p : Pen) (ns out : List 
       enters (λ j r v f w u x g m. never m)
     where
       enters : (j : ℕ) (r : Rule) (v : Value) → find (bytes_at spool key) (text_table (is_layer h) 4 12) ≡ found j r → Row (text_table (is_layer h) 4 12) j r → Reads (known_of s) r (rest_in spool rest) v
-          → opens_block r.holds v ≡ false → get_or (rows_there o) j false ≡ false → got (texts s h fs n (set o j (some v))) ≡ got st' → LineOut K spool first st' ns' out' d
+          → opens_block r.holds v ≡ false → get_or (rows_there o) j false ≡ false → got (texts s h fs n (set o j (Some v))) ≡ got st' → LineOut K spool first st' ns' out' d
       enters j r v f w u x g m =
           let b10 = z.here.0 in
           let b = is_layer h in
@@ -75,15 +75,15 @@ module _ (K : Known) (spool : List ℕ) (first : Bool) (p : Pen) (ns out : List 
           let notes : ns' ≡ set ns (4 + j) (note_of rest) =
           done.notes ∙ notes-at p 10 b10 (table_for first p (is_brace rest)) j r.holds (inner_of r.holds) (note_of rest) ns ∙ ap (λ (m : ℕ). set ns (m + j) (note_of rest)) place in
           let kept : (i : ℕ) → i < 4 → get_or ns' i 0 ≡ get_or ns i 0 = λ i le. ap (λ (u : List ℕ). get_or u i 0) notes ∙ get_or-set_other ns (4 + j) i (note_of rest) 0 (omega arith) in
-          let is : texts s h fs n (set o j (some v)) ≡ st' = cc in
+          let is : texts s h fs n (set o j (Some v)) ≡ st' = cc in
           subst (λ (st : State). LineOut K spool first st ns' out' d) is
-          (key-noted K spool first p ns out (texts s h fs n o) z (texts s h fs n (set o j (some v))) p ns' out' d size many (table_for first p (is_brace rest)) rest k j r v done
+          (key-noted K spool first p ns out (texts s h fs n o) z (texts s h fs n (set o j (Some v))) p ns' out' d size many (table_for first p (is_brace rest)) rest k j r v done
           (rw b10) (rw b10) refl refl (
             b10,
             home_at K first spool p p ns ns' s h refl refl (kept 0 (omega arith)) (kept 3 (omega arith)) z.here.1,
-            subst (λ (u : List ℕ). NotedRows spool k t 4 u (set o j (some v))) (sym notes)
+            subst (λ (u : List ℕ). NotedRows spool k t 4 u (set o j (Some v))) (sym notes)
                 (set-rows spool k t 4 ns o j (note_of rest) v (row_below w) (omega (arith, text-rows b, z.many))
-                (subst (λ (q : Rule). Noted spool k q (note_of rest) (some v)) (sym (row_at w _)) (noted-line spool k r rest v fit-place reads)) z.here.2),
+                (subst (λ (q : Rule). Noted spool k q (note_of rest) (Some v)) (sym (row_at w _)) (noted-line spool k r rest v fit-place reads)) z.here.2),
           ))
 
   pub texts-close : l.form ≡ close → CloseDone spool first p ns out out' d → ns' ≡ ns → LineOut K spool first st' ns' out' d

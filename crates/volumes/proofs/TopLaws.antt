@@ -1,8 +1,8 @@
 -- A line at the top level: the writing stands at the state behind it.
+use Rattle.std.specs.Prelude.{None, Result}
 use Prim.Native.Nat.{ℕ, zero, suc, ◌+◌, ◌<◌}
 use mathlib.Core.Bool.{Bool, true, false, cond, ◌&&◌, ◌||◌, not}
 use mathlib.Core.List.{List, [], ◌∷◌, ◌++◌, append-nil}
-use mathlib.Core.Option.{none}
 use mathlib.Core.Path.{◌≡◌, refl, sym, ◌∙◌, ap, subst}
 use native.Mathlib.Omega.{arith}
 use borrow.Author.Tests.{eqb-true}
@@ -31,7 +31,6 @@ use Rattle.entries.specs.declared.Rest.{Rest}
 use Rattle.entries.specs.Shapes.{rest_in}
 use Rattle.volumes.proofs.FrontSteps.{took}
 use Rattle.pens.specs.declared.Pen.{Pen}
-use Rattle.pens.specs.declared.Drawn.{Drawn}
 use Rattle.pens.specs.Texts.{ended as endedLine, line_bytes, Draws}
 use Rattle.pens.specs.Moves.{moved, begun, top_pen, table_for}
 use Rattle.pens.specs.Noting.{forgotten, NotedRows, NotedParts}
@@ -42,6 +41,7 @@ use Rattle.pens.specs.Drawing.{FormFits, LineOut}
 use Rattle.pens.proofs.Laying.{bytes-append, on_draws}
 use Rattle.volumes.proofs.Acted.{acted}
 use Rattle.pens.proofs.NotedLaws.{blank-rows, blank-parts, file-tables_of}
+use Rattle.leaves.specs.declared.NoRoom.{NoRoom}
 
 -- ── the keys of the top level ──
 abbrev top_key : ℕ → List ℕ
@@ -67,7 +67,7 @@ unfolding table_of
 top-table first p b e = rw e
 
 -- what such a line promises, at the top level
-top-done : (t : ℕ) (p : Pen) (rest : Rest) (k : Known) (j : ℕ) (r : Rule) (v : Value) (ns ns' out out' : List ℕ) (d : Drawn) → p.block ≡ 0 → Row top_table j r → KeyDone t p rest k j r v ns ns' out out' d
+top-done : (t : ℕ) (p : Pen) (rest : Rest) (k : Known) (j : ℕ) (r : Rule) (v : Value) (ns ns' out out' : List ℕ) (d : Result Pen NoRoom) → p.block ≡ 0 → Row top_table j r → KeyDone t p rest k j r v ns ns' out out' d
     → Draws (endedLine (open_line (top_key j))) p.at (top_pen p j (length (endedLine (open_line (top_key j))))) out out' d × (ns' ≡ forgotten ns)
 top-done t p rest k j r v ns ns' out out' d e w z = (rw (e, top-line k j r v w) at z.draws, rw e at z.notes)
 
@@ -76,11 +76,11 @@ file-parts true = omega arith
 file-parts false = omega arith
 
 -- the slots of a drawing that begins
-blank-drawing : (length (blank drawing_table) ≡ 8) × (take 7 (blank drawing_table) ≡ blank (take 7 drawing_table)) × (get_or (blank drawing_table) 7 none ≡ none)
+blank-drawing : (length (blank drawing_table) ≡ 8) × (take 7 (blank drawing_table) ≡ blank (take 7 drawing_table)) × (get_or (blank drawing_table) 7 None ≡ None)
 unfolding drawing_table
 blank-drawing = (refl, refl, refl)
 
-module _ (K : Known) (spool : List ℕ) (first : Bool) (p : Pen) (ns out : List ℕ) (s : Set) (e : Env) (l : Line) (st' : State) (ns' out' : List ℕ) (d : Drawn) (size : length out' ≡ length out) (many : length ns' ≡ 28) (notes : ns' ≡ forgotten ns) where
+module _ (K : Known) (spool : List ℕ) (first : Bool) (p : Pen) (ns out : List ℕ) (s : Set) (e : Env) (l : Line) (st' : State) (ns' out' : List ℕ) (d : Result Pen NoRoom) (size : length out' ≡ length out) (many : length ns' ≡ 28) (notes : ns' ≡ forgotten ns) where
   opened : (j : ℕ) → j < 4 → Pens K spool first p ns out (top s j) → open_top e l s j ≡ got st'
       → Draws (endedLine (open_line (top_key j))) p.at (top_pen p j (length (endedLine (open_line (top_key j))))) out out' d → LineOut K spool first st' ns' out' d
   opened zero few z o w =
@@ -130,7 +130,7 @@ module _ (K : Known) (spool : List ℕ) (first : Bool) (p : Pen) (ns out : List 
       (ap (λ (us : List LayerBlock). front_text K first s ++ open_line (bytes "ELEMENT") ∷ show_blocks (known_of s) (layer_table_of s) us []) blocks) w refl many (refl, body))
   opened (suc (suc (suc (suc j)))) few z o w = absurd (omega (arith, few))
 
-module _ (K : Known) (spool : List ℕ) (first : Bool) (p : Pen) (ns out : List ℕ) (s : Set) (k : ℕ) (z : Pens K spool first p ns out (top s k)) (e : Env) (l : Line) (c : e.class ≡ full_class) (st' : State) (q : step_in e l (top s k) ≡ got st') (ns' out' : List ℕ) (d : Drawn) (size : length out' ≡ length out) (many : length ns' ≡ 28) where
+module _ (K : Known) (spool : List ℕ) (first : Bool) (p : Pen) (ns out : List ℕ) (s : Set) (k : ℕ) (z : Pens K spool first p ns out (top s k)) (e : Env) (l : Line) (c : e.class ≡ full_class) (st' : State) (q : step_in e l (top s k) ≡ got st') (ns' out' : List ℕ) (d : Result Pen NoRoom) (size : length out' ≡ length out) (many : length ns' ≡ 28) where
   pub top_key_lem : (key : Span) (rest : Rest) → l.form ≡ keyed (bytes_at spool key) (rest_in spool rest) → PlacedRest rest → FormFits l.form
       → KeyLine spool first key rest p ns ns' out out' d → LineOut K spool first st' ns' out' d
   top_key_lem key rest f placed fits line =

@@ -1,4 +1,5 @@
 -- A volume's end: the byte 1A behind what is shown, or no room.
+use Rattle.std.specs.Prelude.{Result, Ok, Err}
 use Prim.Native.Nat.{ℕ, zero, suc, ◌+◌, ◌≤◌, ◌<◌}
 use mathlib.Core.Bool.{Bool, false}
 use mathlib.Core.List.{List, [], ◌∷◌, ◌++◌}
@@ -11,8 +12,6 @@ use Rattle.rules.specs.RefusalNumbers.{got}
 use Rattle.rules.specs.Values.{Known}
 use Rattle.rules.specs.Machine.{State, top, file, drawing, layer_names, defines, symbol, hide, elements, figures, successive, texts, placing, skipping, ended}
 use Rattle.rules.specs.Answers.{numbered}
-use Rattle.leaves.specs.declared.Wrote.{Wrote}
-use Rattle.leaves.specs.declared.Wrote.TheVariants as W
 use Rattle.leaves.specs.Writing.{Puts}
 use Rattle.pens.specs.declared.Pen.{Pen}
 use Rattle.pens.specs.Texts.{line_bytes}
@@ -23,14 +22,16 @@ use Rattle.pens.proofs.Laying.{bytes-unlines, front_of}
 use Rattle.pens.proofs.Behind.{full-not, printed, unprinted}
 use Rattle.volumes.proofs.LentOutput.{puts-prints, lent, back, lent-long, lent_laid}
 use Rattle.volumes.proofs.VolumeWalk.{Reading, Walk}
+use Rattle.leaves.specs.declared.NoRoom.{NoRoom}
+use Rattle.leaves.specs.NoRoom.{no_room}
 
-pub fronts-fit : (x before after : List ℕ) (n : ℕ) → n ≡ length x → n ≤ length before → take n after ≡ x → Fronts x before after (W.Bytes n)
+pub fronts-fit : (x before after : List ℕ) (n : ℕ) → n ≡ length x → n ≤ length before → take n after ≡ x → Fronts x before after (Ok n)
 fronts-fit x before after n e h m = record {
-  answer = ap W.Bytes e ∙ sym (rw (le-leb (length x) (length before) (omega (arith, e, h))));
+  answer = ap Ok e ∙ sym (rw (le-leb (length x) (length before) (omega (arith, e, h))));
   memory = λ _. ap (λ (k : ℕ). take k after) (sym e) ∙ m;
 }
 
-pub fronts-none : (x before after : List ℕ) → length before < length x → Fronts x before after W.Full
+pub fronts-none : (x before after : List ℕ) → length before < length x → Fronts x before after (Err no_room)
 fronts-none x before after h = record { answer = sym (rw (lt-leb (length x) (length before) h)); memory = λ f. absurd (omega (arith, f, h)) }
 
 served-here : (K : Known) (spool : List ℕ) (first : Bool) (p : Pen) (ns : List ℕ) (st : State) → Here K spool first p ns st → ServedAfter st
@@ -73,10 +74,10 @@ module _ (spool body : List ℕ) (start : ℕ) (first : Bool) (before : List ℕ
     whole_long : length (unlines (shown x.known first x.ends)) ≡ p.at + 1
     whole_long = ap length whole ∙ length-append text (26 ∷ []) ∙ ap (λ (k : ℕ). k + 1) (sym (ends-here x).at)
 
-    pub body-wrote : (n : ℕ) → Puts (26 ∷ []) (lent p.at out w.safe.within) part (W.Bytes n)
-        → BodyOut x.known first x.ends before (back p.at out w.safe.within part) (W.Bytes (p.at + n))
+    pub body-wrote : (n : ℕ) → Puts (26 ∷ []) (lent p.at out w.safe.within) part (Ok n)
+        → BodyOut x.known first x.ends before (back p.at out w.safe.within part) (Ok (p.at + n))
     body-wrote n z =
-        let y = puts-prints (26 ∷ []) (lent p.at out w.safe.within) part (W.Bytes n) z in
+        let y = puts-prints (26 ∷ []) (lent p.at out w.safe.within) part (Ok n) z in
         let (one, fits, _) = printed (26 ∷ []) (lent p.at out w.safe.within) part n y in
         let room : p.at + 1 ≤ length out = omega (arith, fits, lent-long p.at out w.safe.within, w.safe.within) in
         let lies : back p.at out w.safe.within part ≡ take p.at out ++ ((26 ∷ []) ++ drop (p.at + 1) out) = lent_laid p.at out w.safe.within (26 ∷ []) part fits (y.memory fits) in
@@ -88,9 +89,9 @@ module _ (spool body : List ℕ) (start : ℕ) (first : Bool) (before : List ℕ
           served = λ m e. served-here x.known spool first p ns x.ends (ends-here x).here;
         }
 
-    pub body_unwrote : Puts (26 ∷ []) (lent p.at out w.safe.within) part W.Full → BodyOut x.known first x.ends before (back p.at out w.safe.within part) W.Full
+    pub body_unwrote : Puts (26 ∷ []) (lent p.at out w.safe.within) part (Err no_room) → BodyOut x.known first x.ends before (back p.at out w.safe.within part) (Err no_room)
     body_unwrote z =
-        let short = unprinted (26 ∷ []) (lent p.at out w.safe.within) part (puts-prints (26 ∷ []) (lent p.at out w.safe.within) part W.Full z) in
+        let short = unprinted (26 ∷ []) (lent p.at out w.safe.within) part (puts-prints (26 ∷ []) (lent p.at out w.safe.within) part (Err no_room) z) in
         record {
           fronts = fronts-none (unlines (shown x.known first x.ends)) before (back p.at out w.safe.within part) (omega (arith, short, whole_long, lent-long p.at out w.safe.within, w.long));
           served = λ m e. full-not e;
@@ -98,7 +99,7 @@ module _ (spool body : List ℕ) (start : ℕ) (first : Bool) (before : List ℕ
 
 -- ── what the code promises of a volume ──
 -- for every reading of it
-pub body_promise : (spool body : List ℕ) (start : ℕ) (first : Bool) (before after : List ℕ) (r : Wrote)
+pub body_promise : (spool body : List ℕ) (start : ℕ) (first : Bool) (before after : List ℕ) (r : Result ℕ NoRoom)
     → ((x : Reading spool body start first) → BodyOut x.known first x.ends before after r) → BodyPromise spool body start first before after r
 body_promise spool body start first before after r f K e v next ls s st c a b q = f (record {
   known = K;
@@ -115,7 +116,7 @@ body_promise spool body start first before after r f K e v next ls s st c a b q 
 })
 
 -- a line had no room
-pub body-short : (K : Known) (first : Bool) (st : State) (before after : List ℕ) → length before < length (line_bytes (shown K first st)) → BodyOut K first st before after W.Full
+pub body-short : (K : Known) (first : Bool) (st : State) (before after : List ℕ) → length before < length (line_bytes (shown K first st)) → BodyOut K first st before after (Err no_room)
 body-short K first st before after h = record {
   fronts = fronts-none (unlines (shown K first st)) before after
       (omega (arith, h, ap length (bytes-unlines (shown K first st)), length-append (line_bytes (shown K first st)) (26 ∷ [])));

@@ -1,8 +1,8 @@
 -- The reading of an accepted set, volume by volume: where each volume ends, and what the volumes behind it leave as it was.
+use Rattle.std.specs.Prelude.{Option, Some, None}
 use Prim.Native.Nat.{ℕ, suc, ◌+◌}
 use mathlib.Core.Bool.{Bool, true, false, cond, ◌&&◌, ◌||◌, not}
 use mathlib.Core.List.{List, [], ◌∷◌, ◌++◌, append_assoc}
-use mathlib.Core.Option.{Option, none, some}
 use mathlib.Core.Path.{◌≡◌, refl, sym, ◌∙◌, ap, subst}
 use native.Mathlib.Omega.{arith}
 use borrow.Author.Tests.{eqb-true}
@@ -151,7 +151,7 @@ ran-volume e v next at (l ∷ ls) set more s q = ran-numbered e v next set more 
 abbrev pub Lists : ℕ → List Volume → List Line → Type 0
 Lists k [] ls = ls ≡ []
 Lists k (v ∷ vs) ls =
-    (us : List (List ℕ)) × (more : List Line) × (lines_of v.body ≡ some us) × (ls ≡ lines_of_volume k (next_name vs) v.place us ++ more) × Lists (suc k) vs more
+    (us : List (List ℕ)) × (more : List Line) × (lines_of v.body ≡ Some us) × (ls ≡ lines_of_volume k (next_name vs) v.place us ++ more) × Lists (suc k) vs more
 
 not_listed : {P : Type 0} {n : ℕ} {ls : List Line} → no_lines n ≡ listed ls → P
 not_listed e = absurd (let z : ◌≡◌ {A = ℕ} 0 1 = cc in omega arith)
@@ -161,9 +161,9 @@ lists_of k [] ls e = let same : [] ≡ ls = cc in sym same
 lists_of k (v ∷ vs) ls e = go (lines_of v.body) refl (list_volumes (suc k) vs) (λ more q. lists_of (suc k) vs more q) e
   where
     go : (o : Option (List (List ℕ))) → lines_of v.body ≡ o → (r : Listed) → ((more : List Line) → r ≡ listed more → Lists (suc k) vs more) → list_volume k v vs o r ≡ listed ls → Lists k (v ∷ vs) ls
-    go none p r ih h = not_listed h
-    go (some us) p (no_lines n) ih h = not_listed h
-    go (some us) p (listed more) ih h = let same : lines_of_volume k (next_name vs) v.place us ++ more ≡ ls = cc in (us, more, p, sym same, ih more refl)
+    go None p r ih h = not_listed h
+    go (Some us) p (no_lines n) ih h = not_listed h
+    go (Some us) p (listed more) ih h = let same : lines_of_volume k (next_name vs) v.place us ++ more ≡ ls = cc in (us, more, p, sym same, ih more refl)
 
 -- a volume has a line at least
 lists-some : (k : ℕ) (v : Volume) (vs : List Volume) (ls : List Line) → Lists k (v ∷ vs) ls → (l : Line) × (rest : List Line) × (ls ≡ l ∷ rest)
@@ -223,7 +223,7 @@ module _ (e : Env) (set : Set) where
 
     pub record Stepped (v : Volume) (us : List Volume) : Type 0 where
       pub lines : List (List ℕ)
-      pub are : lines_of v.body ≡ some lines
+      pub are : lines_of v.body ≡ Some lines
       pub state : State
       pub goes : through e (top s 0) (numbered k (next_name us) 1 v.place lines) ≡ got state
       pub after : After us state

@@ -1,8 +1,8 @@
 -- What the lines of a volume leave as it was, and that what is shown of it only grows.
+use Rattle.std.specs.Prelude.{Some, None}
 use Prim.Native.Nat.{ℕ, zero, suc, ◌+◌, ◌≤◌}
 use mathlib.Core.Bool.{Bool, true, false, cond, ◌||◌, not}
 use mathlib.Core.List.{List, [], ◌∷◌, ◌++◌}
-use mathlib.Core.Option.{none, some}
 use mathlib.Core.Path.{◌≡◌, refl, sym, ◌∙◌, ap, subst}
 use native.Mathlib.Omega.{arith}
 use native.Mathlib.Nat.{le_refl}
@@ -51,7 +51,7 @@ le-shown true c x h = rw (h refl) (le_refl (size x))
 le-shown false c x h = omega arith
 
 -- what was read stays read
-pub some-set : (o : Slots) (i j : ℕ) (v : Value) → is_some (get_or o i none) ≡ true → is_some (get_or (set o j (some v)) i none) ≡ true
+pub some-set : (o : Slots) (i j : ℕ) (v : Value) → is_some (get_or o i None) ≡ true → is_some (get_or (set o j (Some v)) i None) ≡ true
 some-set [] i j v e = clash e refl
 some-set (a ∷ o) zero zero v e = refl
 some-set (a ∷ o) zero (suc j) v e = e
@@ -73,7 +73,7 @@ module _ (first : Bool) (s₀ : Set) where
     pub symbols : first ≡ false → s.symbols ≡ s₀.symbols
 
   abbrev pub HomeSound : Home → Type 0
-  HomeSound (in_element y) = (first ≡ true) × (length y.own ≡ 4) × (is_some (get_or y.own 1 none) ≡ true)
+  HomeSound (in_element y) = (first ≡ true) × (length y.own ≡ 4) × (is_some (get_or y.own 1 None) ≡ true)
   HomeSound (in_layer n) = Unit {0}
 
   abbrev pub Sound : State → Type 0
@@ -84,10 +84,10 @@ module _ (first : Bool) (s₀ : Set) where
   Sound (top s (suc (suc (suc (suc k))))) = Closed s
   Sound (file s n h p) = Same s
   Sound (drawing s d) = Same s × (first ≡ true) × (length d.own ≡ 8)
-  Sound (layer_names s d) = Same s × (first ≡ true) × (length d.own ≡ 8) × (is_some (get_or d.own 7 none) ≡ true)
+  Sound (layer_names s d) = Same s × (first ≡ true) × (length d.own ≡ 8) × (is_some (get_or d.own 7 None) ≡ true)
   Sound (defines s b) = Same s × (first ≡ true) × (b ≡ true → s.symbols ≡ [])
   Sound (symbol s y) = Same s × (first ≡ true) × (length y.own ≡ 4)
-  Sound (hide s y ps) = Same s × (first ≡ true) × (length y.own ≡ 4) × (is_some (get_or y.own 2 none) ≡ true)
+  Sound (hide s y ps) = Same s × (first ≡ true) × (length y.own ≡ 4) × (is_some (get_or y.own 2 None) ≡ true)
   Sound (elements s) = Same s
   Sound (figures s h fs) = Same s × HomeSound h
   Sound (successive s h fs n ps) = Same s × HomeSound h
@@ -131,12 +131,12 @@ module _ (K : Known) (first : Bool) where
       let D : Text = open_line (bytes "DRAWING_FORMAT") ∷ [] in
       omega (arith, size-append F D, size-append (F ++ D) (names_text K d))
 
-  pub drawing-row : (s : Set) (d : Drawing) (j : ℕ) (v : Value) → weight (drawing s d) ≤ weight (drawing s (with_own (set d.own j (some v)) d))
+  pub drawing-row : (s : Set) (d : Drawing) (j : ℕ) (v : Value) → weight (drawing s d) ≤ weight (drawing s (with_own (set d.own j (Some v)) d))
   drawing-row s d j v =
-      le-behind (drawing_begun K s) (names_text K d) (names_text K (with_own (set d.own j (some v)) d))
-      (le-shown (is_some (get_or d.own 7 none)) (is_some (get_or (set d.own j (some v)) 7 none)) (block (bytes "layer_name") (show_layers K d.layers) []) (some-set d.own 7 j v))
+      le-behind (drawing_begun K s) (names_text K d) (names_text K (with_own (set d.own j (Some v)) d))
+      (le-shown (is_some (get_or d.own 7 None)) (is_some (get_or (set d.own j (Some v)) 7 None)) (block (bytes "layer_name") (show_layers K d.layers) []) (some-set d.own 7 j v))
 
-  pub names_open : (s : Set) (d : Drawing) (o : Slots) → get_or d.own 7 none ≡ none → weight (drawing s d) ≤ weight (layer_names s (with_own o d))
+  pub names_open : (s : Set) (d : Drawing) (o : Slots) → get_or d.own 7 None ≡ None → weight (drawing s d) ≤ weight (layer_names s (with_own o d))
   names_open s d o e =
       let nothing : names_text K d ≡ [] = rw e in
       omega (
@@ -153,7 +153,7 @@ module _ (K : Known) (first : Bool) where
       (le-behind L (show_layers K d.layers []) (show_layers K (d.layers ++ u ∷ []) [])
       (subst (λ (x : Text). size (show_layers K d.layers []) ≤ size x) (sym (layers-last K d.layers u)) (le-more (show_layers K d.layers []) ((u.id ++ 61 ∷ chars_of u.name) ∷ []))))
 
-  pub names-shut : (s : Set) (d : Drawing) → is_some (get_or d.own 7 none) ≡ true → weight (layer_names s d) ≤ weight (drawing s d)
+  pub names-shut : (s : Set) (d : Drawing) → is_some (get_or d.own 7 None) ≡ true → weight (layer_names s d) ≤ weight (drawing s d)
   names-shut s d e =
       let L : Text = open_line (bytes "layer_name") ∷ show_layers K d.layers [] in
       let whole : names_text K d ≡ L ++ bytes "}" ∷ [] = rw e (block-parts (bytes "layer_name") (show_layers K d.layers) (layers-more K d.layers)) in
@@ -220,24 +220,24 @@ module _ (K : Known) (first : Bool) where
       go false = size-append (shown_part K y) (hidden_part K y)
 
   -- one row more
-  shown-row : (y : Symbol) (j : ℕ) (v : Value) → size (shown_part K y) ≤ size (shown_part K (symbol_own (set y.own j (some v)) y))
+  shown-row : (y : Symbol) (j : ℕ) (v : Value) → size (shown_part K y) ≤ size (shown_part K (symbol_own (set y.own j (Some v)) y))
   shown-row y j v =
-      le-shown (is_some (get_or y.own 1 none)) (is_some (get_or (set y.own j (some v)) 1 none)) (block (bytes "element") (show_figures K false figure_table y.figures) []) (some-set y.own 1 j v)
+      le-shown (is_some (get_or y.own 1 None)) (is_some (get_or (set y.own j (Some v)) 1 None)) (block (bytes "element") (show_figures K false figure_table y.figures) []) (some-set y.own 1 j v)
 
-  hidden-row : (y : Symbol) (j : ℕ) (v : Value) → size (hidden_part K y) ≤ size (hidden_part K (symbol_own (set y.own j (some v)) y))
+  hidden-row : (y : Symbol) (j : ℕ) (v : Value) → size (hidden_part K y) ≤ size (hidden_part K (symbol_own (set y.own j (Some v)) y))
   hidden-row y j v =
-      le-shown (is_some (get_or y.own 2 none)) (is_some (get_or (set y.own j (some v)) 2 none)) (block (bytes "hide") (show_points K false y.hidden) []) (some-set y.own 2 j v)
+      le-shown (is_some (get_or y.own 2 None)) (is_some (get_or (set y.own j (Some v)) 2 None)) (block (bytes "hide") (show_points K false y.hidden) []) (some-set y.own 2 j v)
 
   module _ (s : Set) (y : Symbol) where
     symbol-size : weight (symbol s y) ≡ size (symbol_begun K s) + (size (shown_part K y) + size (hidden_part K y))
     symbol-size = omega (arith, size-append (symbol_begun K s) (parts_text K y), parts-size y)
 
-  pub symbol-row : (s : Set) (y : Symbol) (j : ℕ) (v : Value) → weight (symbol s y) ≤ weight (symbol s (symbol_own (set y.own j (some v)) y))
-  symbol-row s y j v = omega (arith, symbol-size s y, symbol-size s (symbol_own (set y.own j (some v)) y), shown-row y j v, hidden-row y j v)
+  pub symbol-row : (s : Set) (y : Symbol) (j : ℕ) (v : Value) → weight (symbol s y) ≤ weight (symbol s (symbol_own (set y.own j (Some v)) y))
+  symbol-row s y j v = omega (arith, symbol-size s y, symbol-size s (symbol_own (set y.own j (Some v)) y), shown-row y j v, hidden-row y j v)
 
-  pub element-opens : (s : Set) (y : Symbol) (j : ℕ) (v : Value) → get_or y.own 1 none ≡ none → weight (symbol s y) ≤ weight (figures s (in_element (symbol_own (set y.own j (some v)) y)) [])
+  pub element-opens : (s : Set) (y : Symbol) (j : ℕ) (v : Value) → get_or y.own 1 None ≡ None → weight (symbol s y) ≤ weight (figures s (in_element (symbol_own (set y.own j (Some v)) y)) [])
   element-opens s y j v e =
-      let y' = symbol_own (set y.own j (some v)) y in
+      let y' = symbol_own (set y.own j (Some v)) y in
       let E : Text = open_line (bytes "element") ∷ [] in
       let H = hidden_part K y' in
       let none_yet : shown_part K y ≡ [] = rw e in
@@ -251,9 +251,9 @@ module _ (K : Known) (first : Bool) where
         size-append (symbol_begun K s ++ H ++ E) [],
       )
 
-  pub hide-opens : (s : Set) (y : Symbol) (j : ℕ) (v : Value) (b : Bool) → get_or y.own 2 none ≡ none → weight (symbol s y) ≤ weight (hide s (symbol_order b (symbol_own (set y.own j (some v)) y)) [])
+  pub hide-opens : (s : Set) (y : Symbol) (j : ℕ) (v : Value) (b : Bool) → get_or y.own 2 None ≡ None → weight (symbol s y) ≤ weight (hide s (symbol_order b (symbol_own (set y.own j (Some v)) y)) [])
   hide-opens s y j v b e =
-      let y' = symbol_own (set y.own j (some v)) y in
+      let y' = symbol_own (set y.own j (Some v)) y in
       let E : Text = open_line (bytes "hide") ∷ [] in
       let H = shown_part K y' in
       let none_yet : hidden_part K y ≡ [] = rw e in
@@ -266,7 +266,7 @@ module _ (K : Known) (first : Bool) where
       le-behind (symbol_begun K s ++ shown_part K y) (open_line (bytes "hide") ∷ P) (open_line (bytes "hide") ∷ show_points K false (ps ++ q ∷ []) [])
       (le-behind E P (show_points K false (ps ++ q ∷ []) []) (omega (arith, ap size (points-last K false ps q), size-append P (show_points K false (q ∷ []) []))))
 
-  pub hide-shut : (s : Set) (y : Symbol) (ps : List Point) → is_some (get_or y.own 2 none) ≡ true → weight (hide s y ps) ≤ weight (symbol s (symbol_hidden ps y))
+  pub hide-shut : (s : Set) (y : Symbol) (ps : List Point) → is_some (get_or y.own 2 None) ≡ true → weight (hide s y ps) ≤ weight (symbol s (symbol_hidden ps y))
   hide-shut s y ps e =
       let L : Text = open_line (bytes "hide") ∷ show_points K false ps [] in
       let whole : hidden_part K (symbol_hidden ps y) ≡ L ++ bytes "}" ∷ [] = rw e (block-parts (bytes "hide") (show_points K false ps) (points-more K false ps)) in
@@ -398,7 +398,7 @@ module _ (K : Known) (first : Bool) where
           size-append (show_edges k w.elements []) rest,
         ))
 
-  pub element-shut : (s : Set) (y : Symbol) (fs : List Figure) → is_some (get_or y.own 1 none) ≡ true → weight (figures s (in_element y) fs) ≤ weight (symbol s (symbol_figures fs y))
+  pub element-shut : (s : Set) (y : Symbol) (fs : List Figure) → is_some (get_or y.own 1 None) ≡ true → weight (figures s (in_element y) fs) ≤ weight (symbol s (symbol_figures fs y))
   element-shut s y fs e =
       let E : Text = open_line (bytes "element") ∷ [] in
       let F = show_figures K false figure_table fs [] in

@@ -1,8 +1,8 @@
 -- One line of a volume, in any state: what it leaves as it was, and that no less is shown.
+use Rattle.std.specs.Prelude.{Some, None}
 use Prim.Native.Nat.{ℕ, zero, suc, ◌≤◌, ◌<◌, ◌+◌, ◌-◌}
 use mathlib.Core.Bool.{Bool, true, false, cond, ◌&&◌, ◌||◌, not}
 use mathlib.Core.List.{List, [], ◌∷◌, ◌++◌, map}
-use mathlib.Core.Option.{none, some}
 use mathlib.Core.Path.{◌≡◌, refl, sym, ◌∙◌, ap, subst}
 use native.Mathlib.Omega.{arith}
 use native.Mathlib.Nat.{le_refl}
@@ -144,7 +144,7 @@ module _ (K : Known) (first : Bool) (s₀ : Set) (start : is_first s₀ ≡ firs
   drawing-goes s d f z =
       on-by_act (Goes (drawing s d)) (drawing s d) _ _ _ (act (known_of s) drawing_table (digits_of (arc_of s)) (rows_there d.own) f)
       (stays (drawing s d) z)
-      (λ j v. record { sound = (z.0, z.1, length-set d.own j (some v) ∙ z.2); grows = drawing-row K first s d j v })
+      (λ j v. record { sound = (z.0, z.1, length-set d.own j (Some v) ∙ z.2); grows = drawing-row K first s d j v })
       (λ i j v a.
       let w = act-opens (known_of s) drawing_table (digits_of (arc_of s)) (rows_there d.own) f a in
       let seven : j ≡ 7 = names-row j (row_test (λ (r : Rule). opens_kind r.holds) w.row w.opens-block) in
@@ -152,10 +152,10 @@ module _ (K : Known) (first : Bool) (s₀ : Set) (start : is_first s₀ ≡ firs
         sound = (
           z.0,
           z.1,
-          length-set d.own j (some v) ∙ z.2,
-          ap (λ (m : ℕ). is_some (get_or (set d.own m (some v)) 7 none)) seven ∙ ap is_some (get_or-set_same d.own 7 (some v) none (omega (arith, z.2))),
+          length-set d.own j (Some v) ∙ z.2,
+          ap (λ (m : ℕ). is_some (get_or (set d.own m (Some v)) 7 None)) seven ∙ ap is_some (get_or-set_same d.own 7 (Some v) None (omega (arith, z.2))),
         );
-        grows = names_open K first s d (set d.own j (some v)) (unread d.own 7 (ap (λ (m : ℕ). get_or (rows_there d.own) m false) (sym seven) ∙ w.free));
+        grows = names_open K first s d (set d.own j (Some v)) (unread d.own 7 (ap (λ (m : ℕ). get_or (rows_there d.own) m false) (sym seven) ∙ w.free));
       })
       (record { sound = (same-drawing first s₀ d s z.1 z.0, z.1); grows = drawing-shut K first s d z.2 })
 
@@ -189,7 +189,7 @@ module _ (K : Known) (first : Bool) (s₀ : Set) (start : is_first s₀ ≡ firs
 
   -- ── a symbol ──
   symbol-begins : (s : Set) (y : Symbol) (i j : ℕ) (v : Value) (f : Form) → act (known_of s) symbol_table (digits_of (define_range s)) (rows_there y.own) f ≡ begin i j v → Sound first s₀ (symbol s y)
-      → On (Goes (symbol s y)) (open_symbol s (symbol_own (set y.own j (some v)) y) i)
+      → On (Goes (symbol s y)) (open_symbol s (symbol_own (set y.own j (Some v)) y) i)
   symbol-begins s y zero j v f a z = tt
   symbol-begins s y (suc zero) j v f a z =
       let w = act-begin (known_of s) symbol_table (digits_of (define_range s)) (rows_there y.own) f a in
@@ -199,8 +199,8 @@ module _ (K : Known) (first : Bool) (s₀ : Set) (start : is_first s₀ ≡ firs
           z.0,
           (
             z.1,
-            length-set y.own j (some v) ∙ z.2,
-            ap (λ (m : ℕ). is_some (get_or (set y.own m (some v)) 1 none)) is ∙ ap is_some (get_or-set_same y.own 1 (some v) none (omega (arith, z.2))),
+            length-set y.own j (Some v) ∙ z.2,
+            ap (λ (m : ℕ). is_some (get_or (set y.own m (Some v)) 1 None)) is ∙ ap is_some (get_or-set_same y.own 1 (Some v) None (omega (arith, z.2))),
           ),
         );
         grows = element-opens K first s y j v (unread y.own 1 (ap (λ (m : ℕ). get_or (rows_there y.own) m false) (sym is) ∙ w.free));
@@ -212,19 +212,19 @@ module _ (K : Known) (first : Bool) (s₀ : Set) (start : is_first s₀ ≡ firs
         sound = (
           z.0,
           z.1,
-          length-set y.own j (some v) ∙ z.2,
-          ap (λ (m : ℕ). is_some (get_or (set y.own m (some v)) 2 none)) is ∙ ap is_some (get_or-set_same y.own 2 (some v) none (omega (arith, z.2))),
+          length-set y.own j (Some v) ∙ z.2,
+          ap (λ (m : ℕ). is_some (get_or (set y.own m (Some v)) 2 None)) is ∙ ap is_some (get_or-set_same y.own 2 (Some v) None (omega (arith, z.2))),
         );
         grows =
-            hide-opens K first s y j v (is_none (get_or (set y.own j (some v)) 1 none)) (unread y.own 2 (ap (λ (m : ℕ). get_or (rows_there y.own) m false) (sym is) ∙ w.free));
+            hide-opens K first s y j v (is_none (get_or (set y.own j (Some v)) 1 None)) (unread y.own 2 (ap (λ (m : ℕ). get_or (rows_there y.own) m false) (sym is) ∙ w.free));
       }
 
   symbol-goes : (s : Set) (y : Symbol) (f : Form) → Sound first s₀ (symbol s y) → On (Goes (symbol s y)) (on_symbol s y f)
   symbol-goes s y f z =
       on-by_act (Goes (symbol s y)) (symbol s y) _ _ _ (act (known_of s) symbol_table (digits_of (define_range s)) (rows_there y.own) f)
       (stays (symbol s y) z)
-      (λ j v. on-unless (Goes (symbol s y)) (new_name s (symbol_own (set y.own j (some v)) y)) 15 _ λ _.
-      record { sound = (z.0, z.1, length-set y.own j (some v) ∙ z.2); grows = symbol-row K first s y j v })
+      (λ j v. on-unless (Goes (symbol s y)) (new_name s (symbol_own (set y.own j (Some v)) y)) 15 _ λ _.
+      record { sound = (z.0, z.1, length-set y.own j (Some v) ∙ z.2); grows = symbol-row K first s y j v })
       (λ i j v a. symbol-begins s y i j v f a z)
       (record { sound = (same-symbol first s₀ y s z.1 z.0, z.1, λ b. clash b refl); grows = symbol-shut K first s y z.2 })
 
@@ -353,7 +353,7 @@ module _ (K : Known) (first : Bool) (s₀ : Set) (start : is_first s₀ ≡ firs
     kept-elements : (j : ℕ) (v : Value) → (with_attribute w j v).elements ≡ w.elements
     kept-elements j v = go (is_group_row j)
       where
-        go : (b : Bool) → (cond b (with_groups (set w.groups (j - first_group_row) (group_at w j ++ nums_of v ∷ [])) w) (with_once (set w.own j (some v)) w)).elements ≡ w.elements
+        go : (b : Bool) → (cond b (with_groups (set w.groups (j - first_group_row) (group_at w j ++ nums_of v ∷ [])) w) (with_once (set w.own j (Some v)) w)).elements ≡ w.elements
         go true = refl
         go false = refl
 
@@ -398,7 +398,7 @@ module _ (K : Known) (first : Bool) (s₀ : Set) (start : is_first s₀ ≡ firs
     wire-texts i f =
         on-by_act P (placing s m fs n (wire_block w) i) _ _ _ (act (known_of s) wire_text_table (digits 0 0) (rows_there w.writing) f)
         (within w refl i)
-        (λ j v. within (with_texts w.texts (set w.writing j (some v)) w) refl i)
+        (λ j v. within (with_texts w.texts (set w.writing j (Some v)) w) refl i)
         (λ i j v q. tt)
         (within (with_texts (w.texts ++ w.writing ∷ []) [] w) refl 0)
 

@@ -1,4 +1,5 @@
 -- A volume's lines walked through: how far the writing has come, and what one more line makes of it.
+use Rattle.std.specs.Prelude.{Some, None, Result, Ok, Err}
 use Prim.Native.Nat.{ℕ, suc, ◌+◌, ◌<◌}
 use mathlib.Core.Bool.{Bool, true, false, cond, not}
 use mathlib.Core.List.{List, [], ◌∷◌}
@@ -17,11 +18,8 @@ use Rattle.rules.specs.Answers.{numbered, full_class}
 use Rattle.rules.proofs.Chains.{clash, then-got}
 use Rattle.lines.specs.LineLook.{look_in}
 use Rattle.lines.specs.declared.Seen.{Seen}
-use Rattle.lines.specs.declared.Look.TheVariants as S
 use Rattle.lines.proofs.LinesSeen.{look-end}
 use Rattle.pens.specs.declared.Pen.{Pen}
-use Rattle.pens.specs.declared.Drawn.{Drawn}
-use Rattle.pens.specs.declared.Drawn.TheVariants as D
 use Rattle.pens.specs.Texts.{line_bytes, Safe, SafeAfter}
 use Rattle.pens.specs.Shown.{shown}
 use Rattle.pens.specs.Passing.{LinesAt, forms_of}
@@ -32,6 +30,8 @@ use Rattle.volumes.proofs.VolumeSound.{Sound}
 use Rattle.volumes.proofs.VolumeSteps.{step-goes, through-goes}
 use Rattle.volumes.proofs.WireAlong.{along-step}
 use Rattle.pens.proofs.LinesLeft.{line-next}
+use Rattle.leaves.specs.declared.NoRoom.{NoRoom}
+use Rattle.leaves.specs.NoRoom.{no_room}
 
 -- ── how far the writing has come ──
 -- a reading of the volume's lines
@@ -97,7 +97,7 @@ module _ (spool body : List ℕ) (start : ℕ) (first : Bool) where
 
   module _ (before : List ℕ) (p : Pen) (at from : ℕ) (going : Bool) (ns out : List ℕ) (w : Walk spool body start first before p at from going ns out) where
     -- no line was seen
-    pub walk_ends : look_in 1 1 start at body ≡ S.End → Walk spool body start first before p at from false ns out
+    pub walk_ends : look_in 1 1 start at body ≡ None → Walk spool body start first before p at from false ns out
     walk_ends q = record {
       long = w.long;
       many = w.many;
@@ -119,7 +119,7 @@ module _ (spool body : List ℕ) (start : ℕ) (first : Bool) where
     }
 
     -- a line was seen
-    module _ (f : Seen) (q : look_in 1 1 start at body ≡ S.Line f) (ns' out' : List ℕ) (d : Drawn) (promise : DrawPromise spool body start from first f.form p ns ns' out out' d) where
+    module _ (f : Seen) (q : look_in 1 1 start at body ≡ Some f) (ns' out' : List ℕ) (d : Result Pen NoRoom) (promise : DrawPromise spool body start from first f.form p ns ns' out out' d) where
       -- it took the reading on
       pub record Went (x : Reading spool body start first) : Type 0 where
         pub state : State
@@ -156,7 +156,7 @@ module _ (spool body : List ℕ) (start : ℕ) (first : Bool) where
           }
 
       -- there was no room for it, so there is none for all
-      pub walk-short : (x : Reading spool body start first) → d ≡ D.Full → length out' ≡ length out → length before < length (line_bytes (shown x.known first x.ends))
+      pub walk-short : (x : Reading spool body start first) → d ≡ (Err no_room) → length out' ≡ length out → length before < length (line_bytes (shown x.known first x.ends))
       walk-short x e size =
           let g = went x in
           let full : length out' < length (line_bytes (shown x.known first g.state)) = subst (LineOut x.known spool first g.state ns' out') e g.out-is in
@@ -164,11 +164,11 @@ module _ (spool body : List ℕ) (start : ℕ) (first : Bool) where
           through-goes x.known first x.set x.begins.volume x.env (numbered x.volume x.name g.number f.next g.others) g.state x.ends g.sound g.goes in
           omega (arith, full, more, size, w.long)
 
-      pub walk-on : (p' : Pen) → d ≡ D.Go p' → length out' ≡ length out → length ns' ≡ 28 → SafeAfter d out' → (from' : ℕ) → from' ≡ cond (eqb p.block 12) from f.next → Walk spool body start first before p' f.next from' (not f.last) ns' out'
+      pub walk-on : (p' : Pen) → d ≡ Ok p' → length out' ≡ length out → length ns' ≡ 28 → SafeAfter d out' → (from' : ℕ) → from' ≡ cond (eqb p.block 12) from f.next → Walk spool body start first before p' f.next from' (not f.last) ns' out'
       walk-on p' e size many safe from' place = record {
         long = size ∙ w.long;
         many = many;
-        safe = subst (λ (u : Drawn). SafeAfter u out') e safe;
+        safe = subst (λ (u : Result Pen NoRoom). SafeAfter u out') e safe;
         left = λ x.
             let g = went x in
             record {

@@ -1,8 +1,8 @@
 -- The lines of an open wire: what they write for each key that repeats, gone over from its opener on, stays what the wire holds of it.
+use Rattle.std.specs.Prelude.{Some}
 use Prim.Native.Nat.{ℕ, zero, suc, ◌+◌, ◌-◌, ◌≤◌}
 use mathlib.Core.Bool.{Bool, true, false, cond, ◌&&◌, ◌||◌, not}
 use mathlib.Core.List.{List, [], ◌∷◌, ◌++◌, map}
-use mathlib.Core.Option.{some}
 use mathlib.Core.Path.{◌≡◌, refl, sym, ◌∙◌, ap, subst}
 use native.Mathlib.Omega.{arith}
 use borrow.Author.Tests.{ne_eqb, eq-eqb, eqb-true, le-leb}
@@ -63,14 +63,14 @@ group-same w j v lo hi three =
 group-other : (w : Wire) (i j : ℕ) (v : Value) → 2 ≤ i → 2 ≤ j → j ≤ 4 → (i ≡ j → ⊥) → group_at (with_attribute w i v) j ≡ group_at w j
 group-other w i j v li lo hi ne = go (is_group_row i)
   where
-    go : (b : Bool) → get_or (cond b (with_groups (set w.groups (i - 2) (group_at w i ++ nums_of v ∷ [])) w) (with_once (set w.own i (some v)) w)).groups (j - 2) [] ≡ group_at w j
+    go : (b : Bool) → get_or (cond b (with_groups (set w.groups (i - 2) (group_at w i ++ nums_of v ∷ [])) w) (with_once (set w.own i (Some v)) w)).groups (j - 2) [] ≡ group_at w j
     go true = get_or-set_other w.groups (i - 2) (j - 2) (group_at w i ++ nums_of v ∷ []) [] (λ q. ne (omega (arith, q, li, lo)))
     go false = refl
 
 texts-kept : (w : Wire) (i : ℕ) (v : Value) → (with_attribute w i v).texts ≡ w.texts
 texts-kept w i v = go (is_group_row i)
   where
-    go : (b : Bool) → (cond b (with_groups (set w.groups (i - 2) (group_at w i ++ nums_of v ∷ [])) w) (with_once (set w.own i (some v)) w)).texts ≡ w.texts
+    go : (b : Bool) → (cond b (with_groups (set w.groups (i - 2) (group_at w i ++ nums_of v ∷ [])) w) (with_once (set w.own i (Some v)) w)).texts ≡ w.texts
     go true = refl
     go false = refl
 
@@ -142,7 +142,7 @@ module _ (spool body : List ℕ) (start : ℕ) where
 
     -- a line of that text
     text_since : (w : Wire) (i : ℕ) (key : List ℕ) (x : Rest) (j : ℕ) (r : Rule) (v : Value) → find key wire_text_table ≡ found j r → Reads k r x v
-        → Since spool body start from (keyed key x ∷ fs) k w (suc i) → Since spool body start from fs k (with_texts w.texts (set w.writing j (some v)) w) (suc i)
+        → Since spool body start from (keyed key x ∷ fs) k w (suc i) → Since spool body start from fs k (with_texts w.texts (set w.writing j (Some v)) w) (suc i)
     text_since w i key x j r v f u z = record {
       lines = z.lines;
       there = z.there;
@@ -209,7 +209,7 @@ module _ (spool body : List ℕ) (start : ℕ) where
     text-along i (keyed key x) g z q =
         text-acted e l c s m gs n w key x (subst FormFits g fits) st' (suc i) q
         λ j r v f row u a.
-        let is : placing s m gs n (wire_block (with_texts w.texts (set w.writing j (some v)) w)) (suc i) ≡ st' = cc in
+        let is : placing s m gs n (wire_block (with_texts w.texts (set w.writing j (Some v)) w)) (suc i) ≡ st' = cc in
         subst to is (text_since from fs (known_of s) w i key x j r v f u z)
 
     pub wire-along : (i : ℕ) → Since spool body start from (l.form ∷ fs) (known_of s) w i → step_in e l (placing s m gs n (wire_block w) i) ≡ got st' → to st'
@@ -353,7 +353,7 @@ module _ (spool body : List ℕ) (start : ℕ) where
         (λ i j v a. on-unless P (not b) 6 _ λ _. on-taking P e 1 s _ λ _. tt) (on-unless P (b || not (is_nil s.symbols)) 8 _ λ _. tt)
     others-along (symbol s y) x =
         on-by_act P (symbol s y) _ _ _ (act (known_of s) symbol_table (digits_of (define_range s)) (rows_there y.own) l.form) tt
-        (λ j v. on-unless P (new_name s (symbol_own (set y.own j (some v)) y)) 15 _ λ _. tt) (λ i j v a. symbol-opens s (symbol_own (set y.own j (some v)) y) i) tt
+        (λ j v. on-unless P (new_name s (symbol_own (set y.own j (Some v)) y)) 15 _ λ _. tt) (λ i j v a. symbol-opens s (symbol_own (set y.own j (Some v)) y) i) tt
     others-along (hide s y ps) x =
         on-by_act P (hide s y ps) _ _ _ (act (known_of s) (point_table false) (digits 0 0) (rows_at_limit (length ps) (point_table false)) l.form) tt (λ j v. on-taking P e 1 s _ λ _. tt) (λ i j v a. tt) tt
     others-along (elements s) x =

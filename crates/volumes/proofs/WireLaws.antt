@@ -1,8 +1,8 @@
 -- A line in a wire's block.
+use Rattle.std.specs.Prelude.{Some, None, Result}
 use Prim.Native.Nat.{ℕ, zero, suc, ◌+◌, ◌-◌, ◌≤◌, ◌<◌}
 use mathlib.Core.Bool.{Bool, true, false, cond}
 use mathlib.Core.List.{List, [], ◌∷◌, ◌++◌, append_assoc}
-use mathlib.Core.Option.{none, some}
 use mathlib.Core.Path.{◌≡◌, refl, sym, ◌∙◌, ap, subst}
 use native.Mathlib.Omega.{arith}
 use borrow.Author.Tests.{eqb-true, eqb-false, le-leb, lt-leb, lt-ltb, le-ltb, ne_eqb}
@@ -32,7 +32,6 @@ use Rattle.entries.specs.declared.Rest.{Rest as CodeRest}
 use Rattle.entries.specs.Shapes.{rest_in}
 use Rattle.prints.specs.Reading.{Reads}
 use Rattle.pens.specs.declared.Pen.{Pen}
-use Rattle.pens.specs.declared.Drawn.{Drawn}
 use Rattle.pens.specs.Texts.{ended, line_bytes, Draws}
 use Rattle.pens.specs.Moves.{moved, is_opener, at_once, key_pen, table_for}
 use Rattle.pens.specs.Noting.{note_of, key_notes, Noted}
@@ -50,6 +49,7 @@ use Rattle.volumes.proofs.FrontSteps.{took}
 use Rattle.volumes.proofs.FigureLaws.{row-nums, no_block}
 use Rattle.volumes.proofs.PlacedLaws.{part_draws}
 use Rattle.volumes.proofs.WireRows.{row_is, row-ten, number-row, texts-flat, wire-acted, text-acted, key_of, keys-are}
+use Rattle.leaves.specs.declared.NoRoom.{NoRoom}
 
 -- ── the pen ──
 wire-table : (first : Bool) (p : Pen) (c : Bool) → p.block ≡ 12 → p.part ≡ 0 → table_of (table_for first p c) ≡ wire_table
@@ -126,7 +126,7 @@ once-row j hi = rw (le-leb 2 j (omega (arith, hi)), lt-leb j 4 hi)
 
 -- a row of it is noted
 attribute-noted : (K : Known) (spool : List ℕ) (first : Bool) (p : Pen) (ns : List ℕ) (s : Set) (m : ℕ) (w : Wire) (j x : ℕ) (v : Value) → length ns ≡ 28 → 2 ≤ j → j < 10 → (j ≡ 5 → ⊥) → 0 < x
-    → Noted spool (known_of s) (rule_at wire_table j) x (some v) → InWire K spool first p ns s m w 0 → InWire K spool first p (set ns (6 + j) x) s m (with_attribute w j v) 0
+    → Noted spool (known_of s) (rule_at wire_table j) x (Some v) → InWire K spool first p ns s m w 0 → InWire K spool first p (set ns (6 + j) x) s m (with_attribute w j v) 0
 attribute-noted K spool first p ns s m w j x v many lo hi ne some-note note z = room j 4 group once
   where
     other : (i : ℕ) → (i ≡ j → ⊥) → get_or (set ns (6 + j) x) (6 + i) 0 ≡ get_or ns (6 + i) 0
@@ -138,7 +138,7 @@ attribute-noted K spool first p ns s m w j x v many lo hi ne some-note note z = 
     group : j ≤ 4 → InWire K spool first p (set ns (6 + j) x) s m (with_attribute w j v) 0
     group le =
         let gs = set w.groups (j - 2) (group_at w j ++ nums_of v ∷ []) in
-        subst (λ (u : Wire). InWire K spool first p (set ns (6 + j) x) s m u 0) (sym (ap (λ (b : Bool). cond b (with_groups gs w) (with_once (set w.own j (some v)) w)) (group-row j lo le)))
+        subst (λ (u : Wire). InWire K spool first p (set ns (6 + j) x) s m u 0) (sym (ap (λ (b : Bool). cond b (with_groups gs w) (with_once (set w.own j (Some v)) w)) (group-row j lo le)))
         record {
           home = z.home;
           part = z.part;
@@ -162,13 +162,13 @@ attribute-noted K spool first p ns s m w j x v many lo hi ne some-note note z = 
     once gt =
         let gs = set w.groups (j - 2) (group_at w j ++ nums_of v ∷ []) in
         let above : 5 < j = five gt ne in
-        subst (λ (u : Wire). InWire K spool first p (set ns (6 + j) x) s m u 0) (sym (ap (λ (b : Bool). cond b (with_groups gs w) (with_once (set w.own j (some v)) w)) (once-row j gt)))
+        subst (λ (u : Wire). InWire K spool first p (set ns (6 + j) x) s m u 0) (sym (ap (λ (b : Bool). cond b (with_groups gs w) (with_once (set w.own j (Some v)) w)) (once-row j gt)))
         record {
           home = z.home;
           part = z.part;
           open-part = z.open-part;
-          slots = length-set w.own j (some v) ∙ z.slots;
-          others = λ i l. get_or-set_other w.own j i (some v) none (λ q. omega (arith, q, l, above)) ∙ z.others i l;
+          slots = length-set w.own j (Some v) ∙ z.slots;
+          others = λ i l. get_or-set_other w.own j i (Some v) None (λ q. omega (arith, q, l, above)) ∙ z.others i l;
           noted = λ i l h. by i l h (eqb i j) refl;
           groups = z.groups;
           no-group = λ i l h e. z.no-group i l h (sym (other i (λ q. omega (arith, q, h, gt))) ∙ e);
@@ -178,16 +178,16 @@ attribute-noted K spool first p ns s m w j x v many lo hi ne some-note note z = 
         five : 4 < j → (j ≡ 5 → ⊥) → 5 < j
         five g f = room 6 j (λ a. omega (arith, a)) (λ a. absurd (f (omega (arith, a, g))))
 
-        by : (i : ℕ) → 5 < i → i < 10 → (b : Bool) → eqb i j ≡ b → Noted spool (known_of s) (rule_at wire_table i) (get_or (set ns (6 + j) x) (6 + i) 0) (get_or (set w.own j (some v)) i none)
+        by : (i : ℕ) → 5 < i → i < 10 → (b : Bool) → eqb i j ≡ b → Noted spool (known_of s) (rule_at wire_table i) (get_or (set ns (6 + j) x) (6 + i) 0) (get_or (set w.own j (Some v)) i None)
         by i l h true q =
             let is = eqb-true i j q in
-            rw (is, mine, get_or-set_same w.own j (some v) none (omega (arith, hi, z.slots))) note
+            rw (is, mine, get_or-set_same w.own j (Some v) None (omega (arith, hi, z.slots))) note
         by i l h false q =
             let differ = eqb-false i j q in
-            rw (other i differ, get_or-set_other w.own j i (some v) none differ) (z.noted i l h)
+            rw (other i differ, get_or-set_other w.own j i (Some v) None differ) (z.noted i l h)
 
 module _ (K : Known) (spool : List ℕ) (first : Bool) (p : Pen) (ns out : List ℕ) (e : Env) (l : Line) (c : e.class ≡ full_class)
-    (st' : State) (ns' out' : List ℕ) (d : Drawn) (size : length out' ≡ length out) (many : length ns' ≡ 28)
+    (st' : State) (ns' out' : List ℕ) (d : Result Pen NoRoom) (size : length out' ≡ length out) (many : length ns' ≡ 28)
     (s : Set) (m : ℕ) (fs : List Figure) (n : ℕ) (w : Wire) where
   abbrev k : Known
   k = known_of s
@@ -242,7 +242,7 @@ module _ (K : Known) (spool : List ℕ) (first : Bool) (p : Pen) (ns out : List 
       attribute lo ne o a =
           let is : placing s m fs n (wire_block (with_attribute w j v)) 0 ≡ st' = cc in
           let notes : ns' ≡ set ns (6 + j) (note_of rest) = done.notes ∙ noted-notes p b12 first (is_brace rest) j r.holds (inner_of r.holds) (note_of rest) ns old.part lo in
-          let note : Noted spool k (rule_at wire_table j) (note_of rest) (some v) = subst (λ (q : Rule). Noted spool k q (note_of rest) (some v)) (sym (row_is x)) (noted-line spool k r rest v place u) in
+          let note : Noted spool k (rule_at wire_table j) (note_of rest) (Some v) = subst (λ (q : Rule). Noted spool k q (note_of rest) (Some v)) (sym (row_is x)) (noted-line spool k r rest v place u) in
           subst to is
           (key-noted K spool first p ns out (at 0) z (placing s m fs n (wire_block (with_attribute w j v)) 0) p ns' out' d size many (table_for first p (is_brace rest)) rest k j r v done
           (noted-once p b12 j old.part lo) (noted_pen p b12 j r.holds (opens_block r.holds v) (inner_of r.holds) 0 old.part lo (no_block r.holds v o)) refl (shows (is_group_row j)) (
@@ -252,7 +252,7 @@ module _ (K : Known) (spool : List ℕ) (first : Bool) (p : Pen) (ns out : List 
           ))
         where
           -- it changes no element
-          shows : (b : Bool) → F ++ first-line ∷ show_edges k (cond b (with_groups (set w.groups (j - 2) (group_at w j ++ nums_of v ∷ [])) w) (with_once (set w.own j (some v)) w)).elements [] ≡ F ++ first-line ∷ show_edges k w.elements []
+          shows : (b : Bool) → F ++ first-line ∷ show_edges k (cond b (with_groups (set w.groups (j - 2) (group_at w j ++ nums_of v ∷ [])) w) (with_once (set w.own j (Some v)) w)).elements [] ≡ F ++ first-line ∷ show_edges k w.elements []
           shows true = refl
           shows false = refl
 
@@ -298,7 +298,7 @@ module _ (K : Known) (spool : List ℕ) (first : Bool) (p : Pen) (ns out : List 
         λ j r v f x u a.
         let b12 = z.here.0 in
         let old = z.here.1 in
-        let next : State = placing s m fs n (wire_block (with_texts w.texts (set w.writing j (some v)) w)) 1 in
+        let next : State = placing s m fs n (wire_block (with_texts w.texts (set w.writing j (Some v)) w)) 1 in
         let is : next ≡ st' = cc in
         let two : j < 2 = omega (arith, row_below x, text-two) in
         let done = line k j r v (ap (find (bytes_at spool key)) (text-table first p (is_brace rest) b12 old.part) ∙ f) u in
@@ -331,7 +331,7 @@ module _ (K : Known) (spool : List ℕ) (first : Bool) (p : Pen) (ns out : List 
           absent = λ j lo hi q. room j 4
               (λ le. rw (le-leb j 4 le) (ap (λ (vs : List (List Num)). show_group k (rule_at wire_table j) vs []) (old.no-group j lo le q)))
               (λ gt. let five : j ≡ 5 = omega (arith, hi, gt) in rw five (ap (λ (ss : List Slots). show_wire_texts k ss []) (old.no_text (ap (λ (i : ℕ). get_or ns (6 + i) 0) (sym five) ∙ q)).1));
-          value = λ j. get_or w.own j none;
+          value = λ j. get_or w.own j None;
           noted = λ j lo hi. old.noted j lo hi;
           once = λ j lo hi. rw (lt-leb j 4 (omega (arith, lo)), ne_eqb j 5 (λ q. omega (arith, q, lo)));
         }

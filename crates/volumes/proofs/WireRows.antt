@@ -1,8 +1,8 @@
 -- A wire's rows: what a line with a key does, by its row; the text of all rows, one behind the other.
+use Rattle.std.specs.Prelude.{Some, None}
 use Prim.Native.Nat.{ℕ, zero, suc, ◌/◌, ◌%◌, ◌≤◌, ◌<◌}
 use mathlib.Core.Bool.{Bool, true, false, cond, ◌&&◌, ◌||◌}
 use mathlib.Core.List.{List, [], ◌∷◌, ◌++◌, append_assoc}
-use mathlib.Core.Option.{none, some}
 use mathlib.Core.Path.{◌≡◌, refl, sym, ◌∙◌, ap, subst}
 use native.Mathlib.Omega.{arith}
 use borrow.Author.Tests.{leb-true, le-ltb, eqb-true, ltb-true, ltb-false}
@@ -146,7 +146,7 @@ module _ {P : Type 0} (e : Env) (l : Line) (c : e.class ≡ full_class) (s : Set
   -- in its text
   pub text-acted : (i : ℕ) → on_wire_text s m fs n w i (keyed key x) ≡ got st'
       → ((j : ℕ) (r : Rule) (v : Value) → find key wire_text_table ≡ found j r → Row wire_text_table j r → Reads (known_of s) r x v
-      → got (placing s m fs n (wire_block (with_texts w.texts (set w.writing j (some v)) w)) i) ≡ got st' → P)
+      → got (placing s m fs n (wire_block (with_texts w.texts (set w.writing j (Some v)) w)) i) ≡ got st' → P)
       → P
   text-acted i q f =
       acted (placing s m fs n (wire_block w) i) _ _ _ (known_of s) (digits 0 0) st' wire_text_table (rows_there w.writing) key x (table-keys true 4 12).14 fits q
@@ -171,12 +171,12 @@ three-are d a e = same_lists d a (get_or a 0 d ∷ get_or a 1 d ∷ get_or a 2 d
 
 -- the slots of a wire's rows, of which the first six hold nothing
 abbrev once_slots : Slots → Slots
-once_slots o = none ∷ none ∷ none ∷ none ∷ none ∷ none ∷ get_or o 6 none ∷ get_or o 7 none ∷ get_or o 8 none ∷ get_or o 9 none ∷ []
+once_slots o = None ∷ None ∷ None ∷ None ∷ None ∷ None ∷ get_or o 6 None ∷ get_or o 7 None ∷ get_or o 8 None ∷ get_or o 9 None ∷ []
 
-once-are : (o : Slots) → length o ≡ 10 → ((j : ℕ) → j ≤ 5 → get_or o j none ≡ none) → o ≡ once_slots o
-once-are o e f = same_lists none o (once_slots o) e at
+once-are : (o : Slots) → length o ≡ 10 → ((j : ℕ) → j ≤ 5 → get_or o j None ≡ None) → o ≡ once_slots o
+once-are o e f = same_lists None o (once_slots o) e at
   where
-    at : (j : ℕ) → j < length o → get_or o j none ≡ get_or (once_slots o) j none
+    at : (j : ℕ) → j < length o → get_or o j None ≡ get_or (once_slots o) j None
     at zero l = f 0 (omega arith)
     at (suc zero) l = f 1 (omega arith)
     at (suc (suc zero)) l = f 2 (omega arith)
@@ -194,13 +194,13 @@ module _ (k : Known) where
   abbrev pub key_of : Wire → ℕ → Text
   key_of w j =
       cond (leb j 4) (show_group k (rule_at wire_table j) (group_at w j) [])
-      (cond (eqb j 5) (show_wire_texts k w.texts []) (show_slot k (rule_at wire_table j) (get_or w.own j none) no_inner []))
+      (cond (eqb j 5) (show_wire_texts k w.texts []) (show_slot k (rule_at wire_table j) (get_or w.own j None) no_inner []))
 
   abbrev slot : Slots → ℕ → Text → Text
-  slot o j ls = show_slot k (rule_at wire_table j) (get_or o j none) no_inner ls
+  slot o j ls = show_slot k (rule_at wire_table j) (get_or o j None) no_inner ls
 
   slot-before : (o : Slots) (j : ℕ) → Before (slot o j)
-  slot-before o j ls = slot-more k no_inner (none_more k) (rule_at wire_table j) (get_or o j none) ls
+  slot-before o j ls = slot-more k no_inner (none_more k) (rule_at wire_table j) (get_or o j None) ls
 
   slots-four : (o : Slots) → show_slots k wire_table (once_slots o) no_inner [] ≡ slot o 6 (slot o 7 (slot o 8 (slot o 9 [])))
   unfolding wire_table
@@ -210,7 +210,7 @@ module _ (k : Known) where
   onto : (a : Text) (f : Text → Text) → Before f → (x : Text) → a ++ f x ≡ (a ++ f []) ++ x
   onto a f h x = ap (λ (u : Text). a ++ u) (h x) ∙ sym (append_assoc a (f []) x)
 
-  pub keys-are : (w : Wire) → length w.groups ≡ 3 → length w.own ≡ 10 → ((j : ℕ) → j ≤ 5 → get_or w.own j none ≡ none)
+  pub keys-are : (w : Wire) → length w.groups ≡ 3 → length w.own ≡ 10 → ((j : ℕ) → j ≤ 5 → get_or w.own j None ≡ None)
       → show_groups k 2 w.groups (show_wire_texts k w.texts (show_slots k wire_table w.own no_inner [])) ≡ keys_text (key_of w) 8
   keys-are w three ten others =
       let o = w.own in

@@ -1,5 +1,5 @@
 -- What is written of a volume, line by line.
-use Rattle.std.specs.Prelude.{ℕ, zero, suc, ◌/◌, ◌%◌, ◌≤◌, Bool, true, false, ◌≡◌, List, [], ◌∷◌, ◌++◌, length, take}
+use Rattle.std.specs.Prelude.{ℕ, zero, suc, ◌/◌, ◌%◌, ◌≤◌, Bool, true, false, ◌≡◌, List, [], ◌∷◌, ◌++◌, length, take, Result, Ok}
 use Rattle.rules.specs.Spool.{padded_name, unlines, volume_bytes}
 use Rattle.rules.specs.RefusalNumbers.{Got, got, and_then}
 use Rattle.rules.specs.Values.{Known}
@@ -8,16 +8,15 @@ use Rattle.rules.specs.Machine.{Line, Env, State, top, file, drawing, layer_name
 use Rattle.rules.specs.Machine.{skipping, ended}
 use Rattle.rules.specs.LineByLine.{step_in, accepted}
 use Rattle.rules.specs.Answers.{numbered, full_class, rewrite_outcome, written}
-use Rattle.leaves.specs.declared.Wrote.{Wrote}
-use Rattle.leaves.specs.declared.Wrote.TheVariants as W
 use Rattle.leaves.specs.Writing.{put_answer}
 use Rattle.lines.specs.VolumeNames.{name_at}
 use Rattle.pens.specs.Shown.{shown}
 use Rattle.pens.specs.Standing.{Served}
 use Rattle.pens.specs.Passing.{LinesAt}
+use Rattle.leaves.specs.declared.NoRoom.{NoRoom}
 
 -- All of the text at the front, where it fits. What stands behind it, and all where it does not fit, is for who lent the output to clear.
-pub record Fronts (text before after : List ℕ) (r : Wrote) : Type 0 where
+pub record Fronts (text before after : List ℕ) (r : Result ℕ NoRoom) : Type 0 where
   pub answer : r ≡ put_answer text (length before)
   pub memory : length text ≤ length before → take (length text) after ≡ text
 
@@ -54,11 +53,11 @@ ServedAfter (skipping s h fs n o d) = Unit {0}
 ServedAfter (ended s) = Unit {0}
 
 -- for every reading of the volume's lines at class 15: what is shown behind them
-pub record BodyOut (K : Known) (first : Bool) (st : State) (before after : List ℕ) (r : Wrote) : Type 0 where
+pub record BodyOut (K : Known) (first : Bool) (st : State) (before after : List ℕ) (r : Result ℕ NoRoom) : Type 0 where
   pub fronts : Fronts (unlines (shown K first st)) before after r
-  pub served : (n : ℕ) → r ≡ W.Bytes n → ServedAfter st
+  pub served : (n : ℕ) → r ≡ Ok n → ServedAfter st
 
-abbrev pub BodyPromise : List ℕ → List ℕ → ℕ → Bool → List ℕ → List ℕ → Wrote → Type 0
+abbrev pub BodyPromise : List ℕ → List ℕ → ℕ → Bool → List ℕ → List ℕ → Result ℕ NoRoom → Type 0
 BodyPromise spool body start first before after r =
     (K : Known) (e : Env) (v : ℕ) (next : List ℕ) (ls : List (List ℕ)) (s : Set) (st : State) → e.class ≡ full_class
     → LinesAt spool body start start ls → Begins first s
@@ -68,11 +67,11 @@ BodyPromise spool body start first before after r =
 abbrev pub head_bytes : List ℕ → ℕ → List ℕ
 head_bytes n m = (86 ∷ 80 ∷ padded_name n) ++ (m / 256 % 256 ∷ m % 256 ∷ [])
 
-pub record VolumeOut (K : Known) (first : Bool) (name : List ℕ) (st : State) (before after : List ℕ) (r : Wrote) : Type 0 where
+pub record VolumeOut (K : Known) (first : Bool) (name : List ℕ) (st : State) (before after : List ℕ) (r : Result ℕ NoRoom) : Type 0 where
   pub fronts : Fronts (volume_bytes name (unlines (shown K first st))) before after r
-  pub served : (n : ℕ) → r ≡ W.Bytes n → ServedAfter st
+  pub served : (n : ℕ) → r ≡ Ok n → ServedAfter st
 
-abbrev pub VolumePromise : List ℕ → List ℕ → ℕ → Bool → List ℕ → List ℕ → Wrote → Type 0
+abbrev pub VolumePromise : List ℕ → List ℕ → ℕ → Bool → List ℕ → List ℕ → Result ℕ NoRoom → Type 0
 VolumePromise spool body start first before after r =
     (K : Known) (e : Env) (v : ℕ) (next : List ℕ) (ls : List (List ℕ)) (s : Set) (st : State) → e.class ≡ full_class
     → LinesAt spool body start start ls → Begins first s
@@ -80,5 +79,5 @@ VolumePromise spool body start first before after r =
 
 -- ── the set ──
 -- an accepted spool's fixed form
-abbrev pub SetPromise : List ℕ → List ℕ → List ℕ → Wrote → Type 0
+abbrev pub SetPromise : List ℕ → List ℕ → List ℕ → Result ℕ NoRoom → Type 0
 SetPromise spool before after r = (set : Set) → rewrite_outcome spool ≡ accepted set → Fronts (written spool) before after r

@@ -13,27 +13,26 @@ ghost use Rattle.account.specs.Numbering.{block_wire, most_rows};
 use account::{BLOCK_TOP, BLOCK_WIRE, MOST_ROWS};
 use entries::Rest;
 use entries::names::part;
-use leaves::Wrote;
+use leaves::NoRoom;
 use leaves::write::put;
-use lines::Look;
 use lines::forms::look;
 use lines::spool::{volume_name, volumes};
+use pens::Pen;
 use pens::closing::on_close;
 use pens::keys::on_key;
 use pens::places::at_block;
-use pens::{Drawn, Pen};
 use prints::rows::put_plain;
 use rules::{LineForm, Span};
 
 // "The last line of the last volume is `EOF`"
-fn on_eof(pen: Pen, out: &mut [u8]) -> Drawn
+fn on_eof(pen: Pen, out: &mut [u8]) -> Result<Pen, NoRoom>
     requires { Safe pen out.old }
     ensures { Kept out.old out.new result × EofLine pen out.old out.new result }
 {
     let from = pen.at;
     match put_plain(b"EOF", &mut out[from..]) {
-        Wrote::Bytes(n) => Drawn::Go(at_block(pen, n, BLOCK_TOP, 0)),
-        Wrote::Full => Drawn::Full,
+        Ok(n) => Ok(at_block(pen, n, BLOCK_TOP, 0)),
+        Err(NoRoom) => Err(NoRoom),
     }
 }
 
@@ -48,13 +47,13 @@ fn on_line(
     pen: Pen,
     notes: &mut [u32],
     out: &mut [u8],
-) -> Drawn
+) -> Result<Pen, NoRoom>
     requires { Safe pen out.old × (length notes.old ≡ most_rows) }
     ensures { Kept out.old out.new result × (length notes.new ≡ most_rows) × DrawPromise s.now body.now start from first form pen notes.old notes.new out.old out.new result }
 {
     match form {
-        LineForm::Ignored => Drawn::Go(pen),
-        LineForm::Refused(_) => Drawn::Go(pen),
+        LineForm::Ignored => Ok(pen),
+        LineForm::Refused(_) => Ok(pen),
         LineForm::Close => on_close(s, body, start, from, first, pen, notes, out),
         LineForm::Eof => on_eof(pen, out),
         LineForm::Opens(o) => {
@@ -87,7 +86,7 @@ fn put_body(
     first: bool,
     notes: &mut [u32],
     out: &mut [u8],
-) -> Wrote
+) -> Result<usize, NoRoom>
     requires { length notes.old ≡ most_rows }
     ensures { Within out.old out.new result × (length notes.new ≡ most_rows) × BodyPromise s.now body.now start first out.old out.new result }
 {
@@ -103,18 +102,18 @@ fn put_body(
     let mut going = true;
     while going {
         match look(body, start, at, 1, 1) {
-            Look::End => {
+            None => {
                 going = false;
             }
-            Look::Line(seen) => {
+            Some(seen) => {
                 let form = seen.form;
                 let began = wire_from(pen, from, seen.next);
                 match on_line(s, body, start, from, first, form, pen, notes, out) {
-                    Drawn::Go(p) => {
+                    Ok(p) => {
                         pen = p;
                     }
-                    Drawn::Full => {
-                        return Wrote::Full;
+                    Err(NoRoom) => {
+                        return Err(NoRoom);
                     }
                 }
                 at = seen.next;
@@ -124,10 +123,10 @@ fn put_body(
         }
     }
     let from = pen.at;
-    let Wrote::Bytes(n) = put(&[26u8], &mut out[from..]) else {
-        return Wrote::Full;
+    let Ok(n) = put(&[26u8], &mut out[from..]) else {
+        return Err(NoRoom);
     };
-    Wrote::Bytes(from + n)
+    Ok(from + n)
 }
 
 // "mark 56 50 hex; 8 name bytes (1 to 8 of A-Z, 0-9, then spaces); length as 2 bytes, high first"
@@ -150,22 +149,22 @@ fn put_volume(
     first: bool,
     notes: &mut [u32],
     out: &mut [u8],
-) -> Wrote
+) -> Result<usize, NoRoom>
     requires { length notes.old ≡ most_rows }
     ensures { Within out.old out.new result × (length notes.new ≡ most_rows) × VolumePromise s.now body.now start first out.old out.new result }
 {
     if out.len() < 12 {
-        return Wrote::Full;
+        return Err(NoRoom);
     }
-    let Wrote::Bytes(n) = put_body(s, body, start, first, notes, &mut out[12..]) else {
-        return Wrote::Full;
+    let Ok(n) = put_body(s, body, start, first, notes, &mut out[12..]) else {
+        return Err(NoRoom);
     };
     put_head(volume_name(s, start), n, out);
-    Wrote::Bytes(n + 12)
+    Ok(n + 12)
 }
 
 // An accepted spool's fixed form at the front of the output, where it fits.
-pub fn put_set(s: &[u8], out: &mut [u8]) -> Wrote
+pub fn put_set(s: &[u8], out: &mut [u8]) -> Result<usize, NoRoom>
     ensures { Within out.old out.new result × SetPromise s.now out.old out.new result }
 {
     let l = volumes(s);
@@ -183,11 +182,11 @@ pub fn put_set(s: &[u8], out: &mut [u8]) -> Wrote
             },
         );
         let wrote = put_volume(s, body, start, i == 0, &mut notes, &mut out[at..]);
-        let Wrote::Bytes(n) = wrote else {
-            return Wrote::Full;
+        let Ok(n) = wrote else {
+            return Err(NoRoom);
         };
         at += n;
         i += 1;
     }
-    Wrote::Bytes(at)
+    Ok(at)
 }

@@ -6,14 +6,13 @@ ghost use Rattle.std.specs.Prelude.{◌≤◌, length};
 
 use entries::Next;
 use entries::acts::act;
+use leaves::NoRoom;
 use leaves::bytes::{all_in, allowed, is_layer_id, spells};
 use leaves::numbers::{clock, count, day, decimal, fixed, serial};
 use leaves::pieces::decimal_piece;
 use leaves::sheets::{ratio, sheet};
 use leaves::texts::{fits, text_rule};
 use leaves::write::{put_count, put_decimal, put_fixed, put_ratio, put_sheet};
-use leaves::{Count, Ratio, Reading, Sheet, Wrote};
-use lines::Look;
 use lines::forms::look;
 use rules::Digits;
 use std::io;
@@ -32,13 +31,13 @@ fn show_bool<P: Print>(rt: &P, text: &[u8], ok: bool) -> io::Result<()> {
     }
 }
 
-fn show_count<P: Print>(rt: &P, text: &[u8], c: Count) -> io::Result<()> {
+fn show_count<P: Print>(rt: &P, text: &[u8], c: Option<u64>) -> io::Result<()> {
     show_text(rt, text)?;
     match c {
-        Count::Is(n) => {
+        Some(n) => {
             rt.print(n)?;
         }
-        Count::Not => {
+        None => {
             rt.write_all(b"no")?;
         }
     }
@@ -49,8 +48,8 @@ fn show_count<P: Print>(rt: &P, text: &[u8], c: Count) -> io::Result<()> {
 fn worth<P: Print>(rt: &P, text: &[u8], value: i64) -> io::Result<()> {
     let r = decimal(text);
     match r {
-        Reading::Is(d) => show_bool(rt, text, d.value == value),
-        Reading::Not => show_bool(rt, text, false),
+        Some(d) => show_bool(rt, text, d.value == value),
+        None => show_bool(rt, text, false),
     }
 }
 
@@ -58,8 +57,8 @@ fn worth<P: Print>(rt: &P, text: &[u8], value: i64) -> io::Result<()> {
 fn no_decimal<P: Print>(rt: &P, text: &[u8]) -> io::Result<()> {
     let r = decimal(text);
     match r {
-        Reading::Is(_) => show_bool(rt, text, false),
-        Reading::Not => show_bool(rt, text, true),
+        Some(_) => show_bool(rt, text, false),
+        None => show_bool(rt, text, true),
     }
 }
 
@@ -123,14 +122,14 @@ fn piece<P: Print>(rt: &P, text: &[u8], value: i64, end: usize) -> io::Result<()
     let p = decimal_piece(text);
     let r = p.reading;
     match r {
-        Reading::Is(d) => {
+        Some(d) => {
             if d.value == value {
                 show_bool(rt, text, p.end == end)
             } else {
                 show_bool(rt, text, false)
             }
         }
-        Reading::Not => show_bool(rt, text, false),
+        None => show_bool(rt, text, false),
     }
 }
 
@@ -139,8 +138,8 @@ fn no_piece<P: Print>(rt: &P, text: &[u8], end: usize) -> io::Result<()> {
     let p = decimal_piece(text);
     let r = p.reading;
     match r {
-        Reading::Is(_) => show_bool(rt, text, false),
-        Reading::Not => show_bool(rt, text, p.end == end),
+        Some(_) => show_bool(rt, text, false),
+        None => show_bool(rt, text, p.end == end),
     }
 }
 
@@ -166,12 +165,12 @@ fn show_sheet<P: Print>(rt: &P, text: &[u8]) -> io::Result<()> {
     show_text(rt, text)?;
     let r = sheet(text);
     match r {
-        Sheet::Is(s) => {
+        Some(s) => {
             rt.print(s.multiplier as u64)?;
             rt.write_all(b" ")?;
             rt.print(s.number as u64)?;
         }
-        Sheet::Not => {
+        None => {
             rt.write_all(b"no")?;
         }
     }
@@ -202,12 +201,12 @@ fn show_scale<P: Print>(rt: &P, text: &[u8]) -> io::Result<()> {
     show_text(rt, text)?;
     let r = ratio(text);
     match r {
-        Ratio::Is(s) => {
+        Ok(s) => {
             rt.print(s.p as u64)?;
             rt.write_all(b" ")?;
             rt.print(s.q as u64)?;
         }
-        Ratio::Refused(n) => {
+        Err(n) => {
             rt.write_all(b"refused ")?;
             rt.print(n as u64)?;
         }
@@ -266,14 +265,14 @@ fn sets_of_bytes<P: Print>(rt: &P) -> io::Result<()> {
     show_free(rt, 5, b"make of B1 hex", b"\xB1")
 }
 
-fn show_written<P: Print>(rt: &P, w: Wrote, out: &[u8]) -> io::Result<()> {
+fn show_written<P: Print>(rt: &P, w: Result<usize, NoRoom>, out: &[u8]) -> io::Result<()> {
     match w {
-        Wrote::Bytes(n) => {
+        Ok(n) => {
             if n <= out.len() {
                 rt.write_all(&out[..n])?;
             }
         }
-        Wrote::Full => {
+        Err(NoRoom) => {
             rt.write_all(b"no room")?;
         }
     }
@@ -286,11 +285,11 @@ fn decimal_again<P: Print>(rt: &P, text: &[u8]) -> io::Result<()> {
     let mut out = [0u8; 16];
     let r = decimal(text);
     match r {
-        Reading::Is(d) => {
+        Some(d) => {
             let w = put_decimal(d.value, &mut out);
             show_written(rt, w, &out)
         }
-        Reading::Not => rt.write_all(b"no\n"),
+        None => rt.write_all(b"no\n"),
     }
 }
 
@@ -299,11 +298,11 @@ fn count_again<P: Print>(rt: &P, text: &[u8]) -> io::Result<()> {
     let mut out = [0u8; 16];
     let c = serial(text);
     match c {
-        Count::Is(n) => {
+        Some(n) => {
             let w = put_count(n, &mut out);
             show_written(rt, w, &out)
         }
-        Count::Not => rt.write_all(b"no\n"),
+        None => rt.write_all(b"no\n"),
     }
 }
 
@@ -372,7 +371,7 @@ fn in_text<P: Print>(rt: &P, shown: &[u8], line: &[u8]) -> io::Result<()>
     requires { length line.now ≤ 61440 }
 {
     let seen = look(line, 0, 0, 1, 1);
-    let Look::Line(found) = seen else {
+    let Some(found) = seen else {
         return Ok(());
     };
     show_text(rt, shown)?;

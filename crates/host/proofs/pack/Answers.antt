@@ -12,8 +12,8 @@ enum_known-a c = search rules
 pub overflow_cast-result : goal.overflow_cast-result
 overflow_cast-result c = search rules
 
-pub overflow_cast-result-in-Refused : goal.overflow_cast-result-in-Refused
-overflow_cast-result-in-Refused c = search rules
+pub overflow_cast-result-in-Err : goal.overflow_cast-result-in-Err
+overflow_cast-result-in-Err c = search rules
 
 pub overflow_mul-result : goal.overflow_mul-result
 overflow_mul-result c = search rules
@@ -21,19 +21,19 @@ overflow_mul-result c = search rules
 pub overflow_add-result : goal.overflow_add-result
 overflow_add-result c = search rules
 
-pub overflow_cast-result-in-Refused-2 : goal.overflow_cast-result-in-Refused-2
-overflow_cast-result-in-Refused-2 c = search rules
+pub overflow_cast-result-in-Err-2 : goal.overflow_cast-result-in-Err-2
+overflow_cast-result-in-Err-2 c = search rules
 
-pub overflow_mul-result-in-Refused : goal.overflow_mul-result-in-Refused
-overflow_mul-result-in-Refused c = search rules
+pub overflow_mul-result-in-Err : goal.overflow_mul-result-in-Err
+overflow_mul-result-in-Err c = search rules
 
-pub overflow_add-result-in-Refused : goal.overflow_add-result-in-Refused
-overflow_add-result-in-Refused c = search rules
+pub overflow_add-result-in-Err : goal.overflow_add-result-in-Err
+overflow_add-result-in-Err c = search rules
 
-pub returns-in-Accepted : goal.returns-in-Accepted
+pub returns-in-Ok : goal.returns-in-Ok
 unfolding packed
-returns-in-Accepted c = ap packed (sym c.in-Accepted.is)
+returns-in-Ok c = ap packed (sym c.in-Ok.is)
 
-pub returns-in-Refused : goal.returns-in-Refused
+pub returns-in-Err : goal.returns-in-Err
 unfolding packed
-returns-in-Refused c = ap packed (sym c.in-Refused.is)
+returns-in-Err c = ap packed (sym c.in-Err.is)

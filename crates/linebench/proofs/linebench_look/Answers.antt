@@ -22,14 +22,14 @@ overflow_mul-result c = search rules
 pub kind_of-requires : goal.kind_of-requires
 kind_of-requires c = search rules
 
-pub overflow_cast-result-in-Line : goal.overflow_cast-result-in-Line
-overflow_cast-result-in-Line c = search rules
+pub overflow_cast-result-in-Some : goal.overflow_cast-result-in-Some
+overflow_cast-result-in-Some c = search rules
 
 pub overflow_add-result : goal.overflow_add-result
 overflow_add-result c = search rules
 
-pub returns-in-End : goal.returns-in-End
-returns-in-End c = ap packed (sym c.in-End.is ∙ c.look.ensures)
+pub returns-in-None : goal.returns-in-None
+returns-in-None c = ap packed (sym c.in-None.is ∙ c.look.ensures)
 
-pub returns-in-Line : goal.returns-in-Line
-returns-in-Line c = ap (λ k. c.in-Line.f.next * 4294967296 + k) c.kind_of.ensures ∙ ap packed (sym c.in-Line.is ∙ c.look.ensures)
+pub returns-in-Some : goal.returns-in-Some
+returns-in-Some c = ap (λ k. c.in-Some.f.next * 4294967296 + k) c.kind_of.ensures ∙ ap packed (sym c.in-Some.is ∙ c.look.ensures)

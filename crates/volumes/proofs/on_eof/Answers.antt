@@ -21,19 +21,19 @@ pub enum_known-n : goal.enum_known-n
 enum_known-n c = search rules
 
 pub at_block-requires : goal.at_block-requires
-at_block-requires c = omega (arith, lent-room c.args.pen.at c.args.out.now c.requires.within _ _ _ c.put_plain.ensures.0 c.in-Bytes.is)
+at_block-requires c = omega (arith, lent-room c.args.pen.at c.args.out.now c.requires.within _ _ _ c.put_plain.ensures.0 c.in-Ok.is)
 
 pub enum_told-1 : goal.enum_told-1
 enum_told-1 c = search rules
 
-pub shape_of-out-in-Bytes : goal.shape_of-out-in-Bytes
-shape_of-out-in-Bytes c = search rules
+pub shape_of-out-in-Ok : goal.shape_of-out-in-Ok
+shape_of-out-in-Ok c = search rules
 
-pub returns-in-Bytes : goal.returns-in-Bytes
-returns-in-Bytes c = line_wrote c.args.pen c.args.out.now (ended (bytes "EOF")) _ 0 c.requires _ c.put_plain.ensures.0 c.put_plain.ensures.1 _ _ c.in-Bytes.is c.at_block.ensures
+pub returns-in-Ok : goal.returns-in-Ok
+returns-in-Ok c = line_wrote c.args.pen c.args.out.now (ended (bytes "EOF")) _ 0 c.requires _ c.put_plain.ensures.0 c.put_plain.ensures.1 _ _ c.in-Ok.is c.at_block.ensures
 
-pub shape_of-out-in-Full : goal.shape_of-out-in-Full
-shape_of-out-in-Full c = search rules
+pub shape_of-out-in-Err : goal.shape_of-out-in-Err
+shape_of-out-in-Err c = search rules
 
-pub returns-in-Full : goal.returns-in-Full
-returns-in-Full c = line-full c.args.pen c.args.out.now (ended (bytes "EOF")) _ 0 c.requires _ c.put_plain.ensures.0 c.put_plain.ensures.1 c.in-Full.is
+pub returns-in-Err : goal.returns-in-Err
+returns-in-Err c = line-full c.args.pen c.args.out.now (ended (bytes "EOF")) _ 0 c.requires _ c.put_plain.ensures.0 c.put_plain.ensures.1 c.in-Err.is

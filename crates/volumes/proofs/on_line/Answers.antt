@@ -1,6 +1,6 @@
+use Rattle.std.specs.Prelude.{Ok}
 use mathlib.Core.Path.{refl}
 use Rattle.rules.specs.declared.LineForm.TheVariants.{Ignored, Close, Eof, Opens, Equals, Refused}
-use Rattle.pens.specs.declared.Drawn.TheVariants.{Go}
 use Rattle.volumes.proofs.LineLaws.{line_same}
 use borrow.Author.Rules.{rules}
 use Rattle.volumes.proofs.on_line.Goals as goal
@@ -38,12 +38,12 @@ on_key-requires-in-Equals c = search rules
 pub returns-in-Ignored : goal.returns-in-Ignored
 returns-in-Ignored c =
     let a = c.args in
-    (record { safe = c.requires.0; long = refl }, c.requires.1, line_same a.s.now a.body.now a.start a.from a.first a.form Ignored a.pen a.notes.now a.notes.now a.out.now a.out.now (Go a.pen) c.in-Ignored.is refl c.requires.1 (refl, refl, refl))
+    (record { safe = c.requires.0; long = refl }, c.requires.1, line_same a.s.now a.body.now a.start a.from a.first a.form Ignored a.pen a.notes.now a.notes.now a.out.now a.out.now (Ok a.pen) c.in-Ignored.is refl c.requires.1 (refl, refl, refl))
 
 pub returns-in-Refused : goal.returns-in-Refused
 returns-in-Refused c =
     let a = c.args in
-    (record { safe = c.requires.0; long = refl }, c.requires.1, line_same a.s.now a.body.now a.start a.from a.first a.form (Refused _) a.pen a.notes.now a.notes.now a.out.now a.out.now (Go a.pen) c.in-Refused.is refl c.requires.1 tt)
+    (record { safe = c.requires.0; long = refl }, c.requires.1, line_same a.s.now a.body.now a.start a.from a.first a.form (Refused _) a.pen a.notes.now a.notes.now a.out.now a.out.now (Ok a.pen) c.in-Refused.is refl c.requires.1 tt)
 
 pub shape_of-notes-in-Close : goal.shape_of-notes-in-Close
 shape_of-notes-in-Close c = search rules

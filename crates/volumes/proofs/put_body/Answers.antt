@@ -20,11 +20,11 @@ look-requires c = search rules
 pub enum_told-1 : goal.enum_told-1
 enum_told-1 c = search rules
 
-pub loop-going-smaller-in-End : goal.loop-going-smaller-in-End
-loop-going-smaller-in-End c = fewer-none (c.args.start + length c.args.body.now) c.loop-going.at c.loop-going.going c.loop-going-test.true
+pub loop-going-smaller-in-None : goal.loop-going-smaller-in-None
+loop-going-smaller-in-None c = fewer-none (c.args.start + length c.args.body.now) c.loop-going.at c.loop-going.going c.loop-going-test.true
 
-pub loop-going-preserved-in-End : goal.loop-going-preserved-in-End
-loop-going-preserved-in-End c = walk_ends _ _ _ _ _ _ _ _ _ _ _ c.loop-going.invariant (sym c.look.ensures ∙ c.in-End.is)
+pub loop-going-preserved-in-None : goal.loop-going-preserved-in-None
+loop-going-preserved-in-None c = walk_ends _ _ _ _ _ _ _ _ _ _ _ c.loop-going.invariant (sym c.look.ensures ∙ c.in-None.is)
 
 pub enum_known-seen : goal.enum_known-seen
 enum_known-seen c = search rules
@@ -38,28 +38,28 @@ on_line-requires c = (c.loop-going.invariant.safe, c.loop-going.invariant.many)
 pub enum_known-p : goal.enum_known-p
 enum_known-p c = search rules
 
-pub enum_told-in-Full : goal.enum_told-in-Full
-enum_told-in-Full c = search rules
+pub enum_told-in-Err : goal.enum_told-in-Err
+enum_told-in-Err c = search rules
 
-pub shape_of-notes-in-Full : goal.shape_of-notes-in-Full
-shape_of-notes-in-Full c = c.on_line.ensures.1 ∙ sym c.requires
+pub shape_of-notes-in-Err : goal.shape_of-notes-in-Err
+shape_of-notes-in-Err c = c.on_line.ensures.1 ∙ sym c.requires
 
-pub shape_of-out-in-Full : goal.shape_of-out-in-Full
-shape_of-out-in-Full c = c.on_line.ensures.0.long ∙ c.loop-going.invariant.long
+pub shape_of-out-in-Err : goal.shape_of-out-in-Err
+shape_of-out-in-Err c = c.on_line.ensures.0.long ∙ c.loop-going.invariant.long
 
-pub returns-in-Full : goal.returns-in-Full
-returns-in-Full c = (
+pub returns-in-Err : goal.returns-in-Err
+returns-in-Err c = (
   within-full _ _ (c.on_line.ensures.0.long ∙ c.loop-going.invariant.long),
   c.on_line.ensures.1,
   body_promise _ _ _ _ _ _ _ (λ x. body-short x.known _ x.ends _ _
-      (walk-short _ _ _ _ _ _ _ _ _ _ _ c.loop-going.invariant c.in-Line.seen (sym c.look.ensures ∙ c.in-Line.is) _ _ _ c.on_line.ensures.2 x c.in-Full.is c.on_line.ensures.0.long)),
+      (walk-short _ _ _ _ _ _ _ _ _ _ _ c.loop-going.invariant c.in-Some.seen (sym c.look.ensures ∙ c.in-Some.is) _ _ _ c.on_line.ensures.2 x c.in-Err.is c.on_line.ensures.0.long)),
 )
 
 pub loop-going-smaller : goal.loop-going-smaller
-loop-going-smaller c = fewer c.args.body.now c.args.start c.loop-going.at c.loop-going.going (not c.in-Line.seen.last) c.in-Line.seen c.loop-going-test.true (sym c.look.ensures ∙ c.in-Line.is)
+loop-going-smaller c = fewer c.args.body.now c.args.start c.loop-going.at c.loop-going.going (not c.in-Some.seen.last) c.in-Some.seen c.loop-going-test.true (sym c.look.ensures ∙ c.in-Some.is)
 
 pub loop-going-preserved : goal.loop-going-preserved
-loop-going-preserved c = walk-on _ _ _ _ _ _ _ _ _ _ _ c.loop-going.invariant c.in-Line.seen (sym c.look.ensures ∙ c.in-Line.is) _ _ _ c.on_line.ensures.2 _ c.in-Go.is c.on_line.ensures.0.long c.on_line.ensures.1 c.on_line.ensures.0.safe _ c.wire_from-began.ensures
+loop-going-preserved c = walk-on _ _ _ _ _ _ _ _ _ _ _ c.loop-going.invariant c.in-Some.seen (sym c.look.ensures ∙ c.in-Some.is) _ _ _ c.on_line.ensures.2 _ c.in-Ok.is c.on_line.ensures.0.long c.on_line.ensures.1 c.on_line.ensures.0.safe _ c.wire_from-began.ensures
 
 pub slice_bounds-put-count : goal.slice_bounds-put-count
 slice_bounds-put-count c = omega (arith, c.loop-going.invariant.safe.within)
@@ -93,7 +93,7 @@ returns-in_default c = (
 )
 
 pub overflow_add-result : goal.overflow_add-result
-overflow_add-result c = omega (arith, put-room c.loop-going.pen.at c.loop-going.out c.loop-going.invariant.safe.within _ _ _ _ c.put.ensures c.in-Bytes.is, c.loop-going.invariant.long)
+overflow_add-result c = omega (arith, put-room c.loop-going.pen.at c.loop-going.out c.loop-going.invariant.safe.within _ _ _ _ c.put.ensures c.in-Ok.is, c.loop-going.invariant.long)
 
 pub shape_of-notes : goal.shape_of-notes
 shape_of-notes c = c.loop-going.invariant.many ∙ sym c.requires
@@ -104,7 +104,7 @@ shape_of-out c = put-long c.loop-going.pen.at c.loop-going.out c.loop-going.inva
 pub returns : goal.returns
 returns c = (
   bytes-within _ _ _ (put-long c.loop-going.pen.at c.loop-going.out c.loop-going.invariant.safe.within _ _ _ c.put.ensures ∙ c.loop-going.invariant.long)
-      (omega (arith, put-room c.loop-going.pen.at c.loop-going.out c.loop-going.invariant.safe.within _ _ _ _ c.put.ensures c.in-Bytes.is, c.loop-going.invariant.long)),
+      (omega (arith, put-room c.loop-going.pen.at c.loop-going.out c.loop-going.invariant.safe.within _ _ _ _ c.put.ensures c.in-Ok.is, c.loop-going.invariant.long)),
   c.loop-going.invariant.many,
-  body_promise _ _ _ _ _ _ _ (λ x. body-wrote _ _ _ _ _ _ _ _ _ _ _ c.loop-going.invariant c.loop-going-test.false _ x _ (rw c.in-Bytes.is at c.put.ensures)),
+  body_promise _ _ _ _ _ _ _ (λ x. body-wrote _ _ _ _ _ _ _ _ _ _ _ c.loop-going.invariant c.loop-going-test.false _ x _ (rw c.in-Ok.is at c.put.ensures)),
 )

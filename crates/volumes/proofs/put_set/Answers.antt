@@ -57,7 +57,7 @@ pub returns-in_default : goal.returns-in_default
 returns-in_default c = no_room _ _ _ _ _ _ c.loop-i.invariant _ c.volumes-l.ensures c.loop-i-test.true c.loop-i.invariant.fits c.part-body.result.now c.part-body.ensures _ _ c.put_volume-wrote.ensures.0 c.put_volume-wrote.ensures.2 c.in_default.is
 
 pub overflow_add-at : goal.overflow_add-at
-overflow_add-at c = omega (arith, lent-room c.loop-i.at c.loop-i.out c.loop-i.invariant.fits _ _ _ c.put_volume-wrote.ensures.0 c.in-Bytes.is)
+overflow_add-at c = omega (arith, lent-room c.loop-i.at c.loop-i.out c.loop-i.invariant.fits _ _ _ c.put_volume-wrote.ensures.0 c.in-Ok.is)
 
 pub overflow_add-i : goal.overflow_add-i
 overflow_add-i c = omega (arith, few _ _ _ c.volumes-l.ensures c.loop-i-test.true)
@@ -66,7 +66,7 @@ pub loop-i-smaller : goal.loop-i-smaller
 loop-i-smaller c = omega (arith, c.loop-i-test.true)
 
 pub loop-i-preserved : goal.loop-i-preserved
-loop-i-preserved c = goes_on _ _ _ _ _ _ c.loop-i.invariant _ c.volumes-l.ensures c.loop-i-test.true c.loop-i.invariant.fits c.part-body.result.now c.part-body.ensures _ _ c.put_volume-wrote.ensures.0 c.put_volume-wrote.ensures.2 _ c.put_volume-wrote.ensures.1 _ c.in-Bytes.is
+loop-i-preserved c = goes_on _ _ _ _ _ _ c.loop-i.invariant _ c.volumes-l.ensures c.loop-i-test.true c.loop-i.invariant.fits c.part-body.result.now c.part-body.ensures _ _ c.put_volume-wrote.ensures.0 c.put_volume-wrote.ensures.2 _ c.put_volume-wrote.ensures.1 _ c.in-Ok.is
 
 pub shape_of-out : goal.shape_of-out
 shape_of-out c = c.loop-i.invariant.long

@@ -48,7 +48,7 @@ pub put_head-requires : goal.put_head-requires
 put_head-requires c = (rw c.volume_name.ensures (name-short c.args.s.now c.args.start), omega (arith, within-long 12 c.args.out.now c.if-out-lt12.false _ _ c.put_body.ensures.0, c.if-out-lt12.false))
 
 pub overflow_add-result : goal.overflow_add-result
-overflow_add-result c = omega (arith, lent-room 12 c.args.out.now c.if-out-lt12.false _ _ _ c.put_body.ensures.0 c.in-Bytes.is)
+overflow_add-result c = omega (arith, lent-room 12 c.args.out.now c.if-out-lt12.false _ _ _ c.put_body.ensures.0 c.in-Ok.is)
 
 pub shape_of-notes : goal.shape_of-notes
 shape_of-notes c = search rules
@@ -61,8 +61,8 @@ returns c =
     let h = rw c.volume_name.ensures at c.put_head.ensures in
     let name = name_at c.args.s.now c.args.start in
     let short = name-short c.args.s.now c.args.start in (
-      bytes-within _ _ _ (volume-kept c.args.out.now _ c.if-out-lt12.false _ _ name c.in-Bytes.n c.put_body.ensures.0 short h)
-          (omega (arith, lent-room 12 c.args.out.now c.if-out-lt12.false _ _ _ c.put_body.ensures.0 c.in-Bytes.is)),
+      bytes-within _ _ _ (volume-kept c.args.out.now _ c.if-out-lt12.false _ _ name c.in-Ok.n c.put_body.ensures.0 short h)
+          (omega (arith, lent-room 12 c.args.out.now c.if-out-lt12.false _ _ _ c.put_body.ensures.0 c.in-Ok.is)),
       c.put_body.ensures.1,
-      volume_promise _ _ _ _ _ _ _ _ _ _ c.put_body.ensures.2 (λ K st w. volume-wrote K _ name short st c.args.out.now _ c.if-out-lt12.false _ c.in-Bytes.n h (rw c.in-Bytes.is at w)),
+      volume_promise _ _ _ _ _ _ _ _ _ _ c.put_body.ensures.2 (λ K st w. volume-wrote K _ name short st c.args.out.now _ c.if-out-lt12.false _ c.in-Ok.n h (rw c.in-Ok.is at w)),
     )

@@ -25,8 +25,8 @@ enum_known-read c = search rules
 pub enum_told-1 : goal.enum_told-1
 enum_told-1 c = search rules
 
-pub returns-in-Is : goal.returns-in-Is
-returns-in-Is c = digits_are c.args.id.now _ c.requires (take_all (length c.args.id.now - 2) (drop 2 c.args.id.now) (le_of_eq (length-drop 2 c.args.id.now))) c.fixed-read.result c.fixed-read.ensures _ c.in-Is.is
+pub returns-in-Some : goal.returns-in-Some
+returns-in-Some c = digits_are c.args.id.now _ c.requires (take_all (length c.args.id.now - 2) (drop 2 c.args.id.now) (le_of_eq (length-drop 2 c.args.id.now))) c.fixed-read.result c.fixed-read.ensures _ c.in-Some.is
 
-pub returns-in-Not : goal.returns-in-Not
-returns-in-Not c = digits-not c.args.id.now _ c.requires (take_all (length c.args.id.now - 2) (drop 2 c.args.id.now) (le_of_eq (length-drop 2 c.args.id.now))) c.fixed-read.result c.fixed-read.ensures c.in-Not.is
+pub returns-in-None : goal.returns-in-None
+returns-in-None c = digits-not c.args.id.now _ c.requires (take_all (length c.args.id.now - 2) (drop 2 c.args.id.now) (le_of_eq (length-drop 2 c.args.id.now))) c.fixed-read.result c.fixed-read.ensures c.in-None.is

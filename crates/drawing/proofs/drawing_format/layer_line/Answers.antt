@@ -28,8 +28,8 @@ layer_name-read-requires c = search rules
 pub enum_known-read : goal.enum_known-read
 enum_known-read c = search rules
 
-pub enum_known-read-in-Is-1 : goal.enum_known-read-in-Is-1
-enum_known-read-in-Is-1 c = search rules
+pub enum_known-read-in-Ok-1 : goal.enum_known-read-in-Ok-1
+enum_known-read-in-Ok-1 c = search rules
 
 pub bounds-tally-10 : goal.bounds-tally-10
 bounds-tally-10 c = search rules
@@ -38,16 +38,16 @@ pub overflow_cast-count : goal.overflow_cast-count
 overflow_cast-count c = record { fits = omega (arith, c.requires.3) }
 
 pub returns-then-count-ge-MOST_LAYERS : goal.returns-then-count-ge-MOST_LAYERS
-returns-then-count-ge-MOST_LAYERS c = layer_excess c.args.s.now c.args.here c.args.at (bytes_at c.args.s.now c.args.key) (rest_in c.args.s.now c.args.rest) c.args.tally.now c.args.layers.now c.args.rec.now (ap is_layer_id (sym c.part.ensures) ∙ sym c.is_layer_id.ensures ∙ not-false _ c.if-not-is_layer_id.false-raw) _ (sym c.in-Is.is ∙ c.layer_name-read.ensures) _ _ _ c.if-count-ge-MOST_LAYERS.true
+returns-then-count-ge-MOST_LAYERS c = layer_excess c.args.s.now c.args.here c.args.at (bytes_at c.args.s.now c.args.key) (rest_in c.args.s.now c.args.rest) c.args.tally.now c.args.layers.now c.args.rec.now (ap is_layer_id (sym c.part.ensures) ∙ sym c.is_layer_id.ensures ∙ not-false _ c.if-not-is_layer_id.false-raw) _ (sym c.in-Ok.is ∙ c.layer_name-read.ensures) _ _ _ c.if-count-ge-MOST_LAYERS.true
 
 pub slice_bounds-index_of-end : goal.slice_bounds-index_of-end
 slice_bounds-index_of-end c = search rules
 
-pub slice_bounds-index_of-end-in-Is : goal.slice_bounds-index_of-end-in-Is
-slice_bounds-index_of-end-in-Is c = omega (arith, length-take (layers_of c.args.tally.now) c.args.layers.now, c.requires.2, c.requires.3)
+pub slice_bounds-index_of-end-in-Ok : goal.slice_bounds-index_of-end-in-Ok
+slice_bounds-index_of-end-in-Ok c = omega (arith, length-take (layers_of c.args.tally.now) c.args.layers.now, c.requires.2, c.requires.3)
 
-pub part-requires-in-Is : goal.part-requires-in-Is
-part-requires-in-Is c = search rules
+pub part-requires-in-Ok : goal.part-requires-in-Ok
+part-requires-in-Ok c = search rules
 
 pub index_of-found-requires : goal.index_of-found-requires
 index_of-found-requires c = omega (arith, length-take (layers_of c.args.tally.now) c.args.layers.now, c.requires.2, c.requires.3)
@@ -61,14 +61,14 @@ enum_told-in-None c = search rules
 pub take_layer-requires : goal.take_layer-requires
 take_layer-requires c = (c.requires.0, c.requires.1, c.requires.2, c.if-count-ge-MOST_LAYERS.false, (ap is_layer_id (sym c.part.ensures) ∙ sym c.is_layer_id.ensures ∙ not-false _ c.if-not-is_layer_id.false-raw), c.requires.4, c.requires.5)
 
-pub returns-in-Bad : goal.returns-in-Bad
-returns-in-Bad c = layer-unnamed c.args.s.now c.args.here c.args.at (bytes_at c.args.s.now c.args.key) (rest_in c.args.s.now c.args.rest) c.args.tally.now c.args.layers.now c.args.rec.now _ _ _ _ (ap is_layer_id (sym c.part.ensures) ∙ sym c.is_layer_id.ensures ∙ not-false _ c.if-not-is_layer_id.false-raw) (sym c.in-Bad.is ∙ c.layer_name-read.ensures)
+pub returns-in-Err : goal.returns-in-Err
+returns-in-Err c = layer-unnamed c.args.s.now c.args.here c.args.at (bytes_at c.args.s.now c.args.key) (rest_in c.args.s.now c.args.rest) c.args.tally.now c.args.layers.now c.args.rec.now _ _ _ _ (ap is_layer_id (sym c.part.ensures) ∙ sym c.is_layer_id.ensures ∙ not-false _ c.if-not-is_layer_id.false-raw) (sym c.in-Err.is ∙ c.layer_name-read.ensures)
 
-pub shape_of-layers-in-At : goal.shape_of-layers-in-At
-shape_of-layers-in-At c = search rules
+pub shape_of-layers-in-Some : goal.shape_of-layers-in-Some
+shape_of-layers-in-Some c = search rules
 
-pub returns-in-At : goal.returns-in-At
-returns-in-At c = layer-twice c.args.s.now c.args.here c.args.at (bytes_at c.args.s.now c.args.key) (rest_in c.args.s.now c.args.rest) c.args.tally.now c.args.layers.now c.args.rec.now (ap is_layer_id (sym c.part.ensures) ∙ sym c.is_layer_id.ensures ∙ not-false _ c.if-not-is_layer_id.false-raw) _ (sym c.in-Is.is ∙ c.layer_name-read.ensures) _ _ _ c.if-count-ge-MOST_LAYERS.false (index-among (bytes_at c.args.s.now c.args.key) _ 0 _ (ap (λ (k : List ℕ). index_from 0 k (names_in c.args.s.now (take (layers_of c.args.tally.now) c.args.layers.now))) (sym c.part-in-Is.ensures) ∙ sym c.index_of-found.ensures ∙ c.in-At.is))
+pub returns-in-Some : goal.returns-in-Some
+returns-in-Some c = layer-twice c.args.s.now c.args.here c.args.at (bytes_at c.args.s.now c.args.key) (rest_in c.args.s.now c.args.rest) c.args.tally.now c.args.layers.now c.args.rec.now (ap is_layer_id (sym c.part.ensures) ∙ sym c.is_layer_id.ensures ∙ not-false _ c.if-not-is_layer_id.false-raw) _ (sym c.in-Ok.is ∙ c.layer_name-read.ensures) _ _ _ c.if-count-ge-MOST_LAYERS.false (index-among (bytes_at c.args.s.now c.args.key) _ 0 _ (ap (λ (k : List ℕ). index_from 0 k (names_in c.args.s.now (take (layers_of c.args.tally.now) c.args.layers.now))) (sym c.part-in-Ok.ensures) ∙ sym c.index_of-found.ensures ∙ c.in-Some.is))
 
 pub shape_of-tally : goal.shape_of-tally
 shape_of-tally c = search rules
@@ -80,4 +80,4 @@ pub shape_of-rec : goal.shape_of-rec
 shape_of-rec c = search rules
 
 pub returns-in-None : goal.returns-in-None
-returns-in-None c = layer_takes c.args.s.now c.args.here c.args.at (bytes_at c.args.s.now c.args.key) (rest_in c.args.s.now c.args.rest) c.args.tally.now c.args.layers.now c.args.rec.now (ap is_layer_id (sym c.part.ensures) ∙ sym c.is_layer_id.ensures ∙ not-false _ c.if-not-is_layer_id.false-raw) _ (sym c.in-Is.is ∙ c.layer_name-read.ensures) _ _ _ _ c.if-count-ge-MOST_LAYERS.false (index-none (bytes_at c.args.s.now c.args.key) _ 0 (ap (λ (k : List ℕ). index_from 0 k (names_in c.args.s.now (take (layers_of c.args.tally.now) c.args.layers.now))) (sym c.part-in-Is.ensures) ∙ sym c.index_of-found.ensures ∙ c.in-None.is)) c.take_layer.ensures
+returns-in-None c = layer_takes c.args.s.now c.args.here c.args.at (bytes_at c.args.s.now c.args.key) (rest_in c.args.s.now c.args.rest) c.args.tally.now c.args.layers.now c.args.rec.now (ap is_layer_id (sym c.part.ensures) ∙ sym c.is_layer_id.ensures ∙ not-false _ c.if-not-is_layer_id.false-raw) _ (sym c.in-Ok.is ∙ c.layer_name-read.ensures) _ _ _ _ c.if-count-ge-MOST_LAYERS.false (index-none (bytes_at c.args.s.now c.args.key) _ 0 (ap (λ (k : List ℕ). index_from 0 k (names_in c.args.s.now (take (layers_of c.args.tally.now) c.args.layers.now))) (sym c.part-in-Ok.ensures) ∙ sym c.index_of-found.ensures ∙ c.in-None.is)) c.take_layer.ensures

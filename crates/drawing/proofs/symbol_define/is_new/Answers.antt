@@ -19,8 +19,8 @@ enum_told-1 c = search rules
 pub enum_told-in-None : goal.enum_told-in-None
 enum_told-in-None c = search rules
 
-pub returns-in-At : goal.returns-in-At
-returns-in-At c = index-old (bytes_at c.args.s.now c.args.name) (names_in c.args.s.now c.args.symbols.now) _ (ap (λ (k : List ℕ). index_from 0 k (names_in c.args.s.now c.args.symbols.now)) (sym c.part.ensures) ∙ sym c.index_of.ensures ∙ c.in-At.is)
+pub returns-in-Some : goal.returns-in-Some
+returns-in-Some c = index-old (bytes_at c.args.s.now c.args.name) (names_in c.args.s.now c.args.symbols.now) _ (ap (λ (k : List ℕ). index_from 0 k (names_in c.args.s.now c.args.symbols.now)) (sym c.part.ensures) ∙ sym c.index_of.ensures ∙ c.in-Some.is)
 
 pub returns-in-None : goal.returns-in-None
 returns-in-None c = index-new (bytes_at c.args.s.now c.args.name) (names_in c.args.s.now c.args.symbols.now) (ap (λ (k : List ℕ). index_from 0 k (names_in c.args.s.now c.args.symbols.now)) (sym c.part.ensures) ∙ sym c.index_of.ensures ∙ c.in-None.is)

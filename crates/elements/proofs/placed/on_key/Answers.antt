@@ -38,9 +38,9 @@ on_unknown-requires-then-not-reaches c = search rules
 pub returns-then-not-reaches : goal.returns-then-not-reaches
 returns-then-not-reaches c =
     let a = c.args in
-    let e = rw (c.in-Row.is, c.part.ensures) at c.row_of.ensures in
+    let e = rw (c.in-Some.is, c.part.ensures) at c.row_of.ensures in
     let x = lent a.tally.now a.serials.now a.marks.now a.inner.now in
-    key-hidden (bytes_at a.s.now a.key) c.in-Row.row e (known_in a.s.now a.symbols.now a.layers.now) a.class a.range a.here x x a.rec.now a.rec.now c.on_unknown-then-not-reaches.result (skipped_by (form_in a.s.now a.form)) (rest_in a.s.now a.rest) (sym c.reaches.ensures ∙ not-true _ c.if-not-reaches.true-raw) (record { answer = c.on_unknown-then-not-reaches.ensures; lent = refl; rec = refl })
+    key-hidden (bytes_at a.s.now a.key) c.in-Some.row e (known_in a.s.now a.symbols.now a.layers.now) a.class a.range a.here x x a.rec.now a.rec.now c.on_unknown-then-not-reaches.result (skipped_by (form_in a.s.now a.form)) (rest_in a.s.now a.rest) (sym c.reaches.ensures ∙ not-true _ c.if-not-reaches.true-raw) (record { answer = c.on_unknown-then-not-reaches.ensures; lent = refl; rec = refl })
 
 pub overflow_cast-had : goal.overflow_cast-had
 overflow_cast-had c = search rules
@@ -48,15 +48,15 @@ overflow_cast-had c = search rules
 pub bounds-marks-row : goal.bounds-marks-row
 bounds-marks-row c =
     let a = c.args in
-    let e = rw (c.in-Row.is, c.part.ensures) at c.row_of.ensures in
-    omega (arith, row_number (bytes_at a.s.now a.key) c.in-Row.row e, c.requires.3.marks)
+    let e = rw (c.in-Some.is, c.part.ensures) at c.row_of.ensures in
+    omega (arith, row_number (bytes_at a.s.now a.key) c.in-Some.row e, c.requires.3.marks)
 
 pub act_row-next-requires : goal.act_row-next-requires
 act_row-next-requires c =
     let a = c.args in
     let h = c.requires in
-    let e = rw (c.in-Row.is, c.part.ensures) at c.row_of.ensures in
-    (h.0, h.1, h.2, row_room (table_of 18) (bytes_at a.s.now a.key) c.in-Row.row e 0 (length a.rec.now) (placed-room (length a.rec.now) h.4))
+    let e = rw (c.in-Some.is, c.part.ensures) at c.row_of.ensures in
+    (h.0, h.1, h.2, row_room (table_of 18) (bytes_at a.s.now a.key) c.in-Some.row e 0 (length a.rec.now) (placed-room (length a.rec.now) h.4))
 
 pub content_at-requires : goal.content_at-requires
 content_at-requires c = search rules
@@ -66,14 +66,14 @@ placed_done-requires c =
     let a = c.args in
     let h = c.requires in
     let k = known_in a.s.now a.symbols.now a.layers.now in
-    let e = rw (c.in-Row.is, c.part.ensures) at c.row_of.ensures in
-    let w = row-acts (table_of 18) (bytes_at a.s.now a.key) c.in-Row.row e k a.range a.marks.now (rest_in a.s.now a.rest) 0 a.rec.now _ _ _ refl c.act_row-next.ensures in
+    let e = rw (c.in-Some.is, c.part.ensures) at c.row_of.ensures in
+    let w = row-acts (table_of 18) (bytes_at a.s.now a.key) c.in-Some.row e k a.range a.marks.now (rest_in a.s.now a.rest) 0 a.rec.now _ _ _ refl c.act_row-next.ensures in
     (h.3, c.act_row-next.auto.rec ∙ h.4, found_ready k a.range a.marks.now (bytes_at a.s.now a.key) (rest_in a.s.now a.rest) a.rec.now _ h.4 _ w)
 
-pub returns-in-Absent : goal.returns-in-Absent
-returns-in-Absent c =
+pub returns-in-None : goal.returns-in-None
+returns-in-None c =
     let a = c.args in
-    let e = rw (c.in-Absent.is, c.part.ensures) at c.row_of.ensures in
+    let e = rw (c.in-None.is, c.part.ensures) at c.row_of.ensures in
     rw (no_row (find (bytes_at a.s.now a.key) (table_of 18)) e) (record { answer = c.on_unknown.ensures; lent = refl {a = lent a.tally.now a.serials.now a.marks.now a.inner.now}; rec = refl {a = a.rec.now} })
 
 pub shape_of-tally : goal.shape_of-tally
@@ -95,7 +95,7 @@ pub returns-else-not-reaches : goal.returns-else-not-reaches
 returns-else-not-reaches c =
     let a = c.args in
     let k = known_in a.s.now a.symbols.now a.layers.now in
-    let e = rw (c.in-Row.is, c.part.ensures) at c.row_of.ensures in
-    let w = row-acts (table_of 18) (bytes_at a.s.now a.key) c.in-Row.row e k a.range a.marks.now (rest_in a.s.now a.rest) 0 a.rec.now _ _ _ refl c.act_row-next.ensures in
+    let e = rw (c.in-Some.is, c.part.ensures) at c.row_of.ensures in
+    let w = row-acts (table_of 18) (bytes_at a.s.now a.key) c.in-Some.row e k a.range a.marks.now (rest_in a.s.now a.rest) 0 a.rec.now _ _ _ refl c.act_row-next.ensures in
     let l = c.placed_done.new in
-    key-known (bytes_at a.s.now a.key) c.in-Row.row e k a.class a.range a.here (lent a.tally.now a.serials.now a.marks.now a.inner.now) (lent l.tally l.serials l.marks l.inner) a.rec.now c.act_row-next.new.rec c.placed_done.result (skipped_by (form_in a.s.now a.form)) (rest_in a.s.now a.rest) c.act_row-next.result (sym c.reaches.ensures ∙ not-false _ c.if-not-reaches.false-raw) w (rw c.content_at.ensures at c.placed_done.ensures)
+    key-known (bytes_at a.s.now a.key) c.in-Some.row e k a.class a.range a.here (lent a.tally.now a.serials.now a.marks.now a.inner.now) (lent l.tally l.serials l.marks l.inner) a.rec.now c.act_row-next.new.rec c.placed_done.result (skipped_by (form_in a.s.now a.form)) (rest_in a.s.now a.rest) c.act_row-next.result (sym c.reaches.ensures ∙ not-false _ c.if-not-reaches.false-raw) w (rw c.content_at.ensures at c.placed_done.ensures)

@@ -71,8 +71,8 @@ returns-in_default t c = rw c.in_default.is (inner-stops _ _ _ _ _ _ c.loop-did.
 pub loop-did-smaller : goal.loop-did-smaller
 loop-did-smaller t c =
     let m = seen-forward _ _ _ _ c.next_line-seen.ensures c.if-seen.false in
-    let k = rw c.in-Go.is at c.skip_block-r.ensures in
+    let k = rw c.in-Ok.is at c.skip_block-r.ensures in
     omega (arith, m.0, m.1, k.further.1)
 
 pub loop-did-preserved : goal.loop-did-preserved
-loop-did-preserved t c = goes_on _ _ _ _ _ _ c.loop-did.invariant _ c.next_line-seen.ensures _ c.skip_line-did.ensures c.if-seen.false (sym c.in-Deeper.is) c.if-left-eq1.false _ (rw c.in-Go.is at c.skip_block-r.ensures)
+loop-did-preserved t c = goes_on _ _ _ _ _ _ c.loop-did.invariant _ c.next_line-seen.ensures _ c.skip_line-did.ensures c.if-seen.false (sym c.in-Deeper.is) c.if-left-eq1.false _ (rw c.in-Ok.is at c.skip_block-r.ensures)

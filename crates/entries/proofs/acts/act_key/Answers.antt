@@ -31,20 +31,20 @@ pub act_row-requires : goal.act_row-requires
 act_row-requires c =
     let a = c.args in
     let h = c.requires in
-    let e = rw (c.in-Row.is, c.part.ensures) at c.row_of.ensures in
-    (h.0, h.1, h.2, row_room (table_of a.table) (bytes_at a.s.now a.key) c.in-Row.row e a.dump (length a.rec.now) h.3)
+    let e = rw (c.in-Some.is, c.part.ensures) at c.row_of.ensures in
+    (h.0, h.1, h.2, row_room (table_of a.table) (bytes_at a.s.now a.key) c.in-Some.row e a.dump (length a.rec.now) h.3)
 
-pub returns-in-Absent : goal.returns-in-Absent
-returns-in-Absent c =
+pub returns-in-None : goal.returns-in-None
+returns-in-None c =
     let a = c.args in
-    let e = rw (c.in-Absent.is, c.part.ensures) at c.row_of.ensures in
+    let e = rw (c.in-None.is, c.part.ensures) at c.row_of.ensures in
     rw (no_row (find (bytes_at a.s.now a.key) (table_of a.table)) e) (unknown-acts (rule_at (table_of a.table)) a.dump a.rec.now _ (rest_in a.s.now a.rest) _ c.unknown.ensures)
 
 pub shape_of-rec : goal.shape_of-rec
 shape_of-rec c = search rules
 
-pub returns-in-Row : goal.returns-in-Row
-returns-in-Row c =
+pub returns-in-Some : goal.returns-in-Some
+returns-in-Some c =
     let a = c.args in
-    let e = rw (c.in-Row.is, c.part.ensures) at c.row_of.ensures in
-    row-acts (table_of a.table) (bytes_at a.s.now a.key) c.in-Row.row e (known_in c.args.s.now c.args.symbols.now c.args.layers.now) a.d a.full.now (rest_in a.s.now a.rest) a.dump a.rec.now _ _ _ c.mark-had.ensures c.act_row.ensures
+    let e = rw (c.in-Some.is, c.part.ensures) at c.row_of.ensures in
+    row-acts (table_of a.table) (bytes_at a.s.now a.key) c.in-Some.row e (known_in c.args.s.now c.args.symbols.now c.args.layers.now) a.d a.full.now (rest_in a.s.now a.rest) a.dump a.rec.now _ _ _ c.mark-had.ensures c.act_row.ensures

@@ -12,8 +12,8 @@ enum_known-z c = search rules
 pub overflow_cast-z : goal.overflow_cast-z
 overflow_cast-z c = search rules
 
-pub overflow_cast-z-in-Is : goal.overflow_cast-z-in-Is
-overflow_cast-z-in-Is c = search rules
+pub overflow_cast-z-in-Ok : goal.overflow_cast-z-in-Ok
+overflow_cast-z-in-Ok c = search rules
 
 pub put_two-requires : goal.put_two-requires
 put_two-requires c = search rules
@@ -24,12 +24,12 @@ enum_known-n c = search rules
 pub shape_of-rec : goal.shape_of-rec
 shape_of-rec c = search rules
 
-pub returns-in-Is : goal.returns-in-Is
-returns-in-Is c =
+pub returns-in-Ok : goal.returns-in-Ok
+returns-in-Ok c =
     let a = c.args in
-    ratio-done a.c.now a.rec.now _ a.p c.in-Is.z (sym c.in-Is.is ∙ c.ratio.ensures) c.put_two.ensures
+    ratio-done a.c.now a.rec.now _ a.p c.in-Ok.z (sym c.in-Ok.is ∙ c.ratio.ensures) c.put_two.ensures
 
-pub returns-in-Refused : goal.returns-in-Refused
-returns-in-Refused c =
+pub returns-in-Err : goal.returns-in-Err
+returns-in-Err c =
     let a = c.args in
-    ratio-bad a.c.now a.rec.now _ a.p c.in-Refused.n (sym c.in-Refused.is ∙ c.ratio.ensures)
+    ratio-bad a.c.now a.rec.now _ a.p c.in-Err.n (sym c.in-Err.is ∙ c.ratio.ensures)

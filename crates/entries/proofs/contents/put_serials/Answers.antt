@@ -25,7 +25,7 @@ returns-in_default c =
 pub returns-then-n-gt101 : goal.returns-then-n-gt101
 returns-then-n-gt101 c =
     let a = c.args in
-    linked-eleven a.c.now a.rec.now _ a.p c.in-Is.n (sym c.in-Is.is ∙ c.serial_count.ensures) c.if-n-gt101.true
+    linked-eleven a.c.now a.rec.now _ a.p c.in-Some.n (sym c.in-Some.is ∙ c.serial_count.ensures) c.if-n-gt101.true
 
 pub find-e-requires : goal.find-e-requires
 find-e-requires c = search rules
@@ -48,11 +48,11 @@ returns-in_default-serial c =
     linked-own a.c.now a.rec.now _ a.p c.find-e.result c.find-e.ensures (sym c.in_default-serial.is ∙ c.serial.ensures)
 
 pub overflow_sub-n : goal.overflow_sub-n
-overflow_sub-n c = some-serials c.args.c.now c.args.rec.now c.args.rec.now 0 c.in-Is.n (sym c.in-Is.is ∙ c.serial_count.ensures)
+overflow_sub-n c = some-serials c.args.c.now c.args.rec.now c.args.rec.now 0 c.in-Some.n (sym c.in-Some.is ∙ c.serial_count.ensures)
 
 pub put_two-requires : goal.put_two-requires
 put_two-requires c =
-    let h = count-below 10 (take c.find-e.result c.args.c.now) c.in-Is-serial.v (sym c.serial.ensures ∙ c.in-Is-serial.is) in
+    let h = count-below 10 (take c.find-e.result c.args.c.now) c.in-Some-serial.v (sym c.serial.ensures ∙ c.in-Some-serial.is) in
     (omega (arith, h), omega (arith, c.if-n-gt101.false), c.requires.1)
 
 pub shape_of-rec : goal.shape_of-rec
@@ -61,4 +61,4 @@ shape_of-rec c = search rules
 pub returns : goal.returns
 returns c =
     let a = c.args in
-    linked-done a.c.now a.rec.now _ a.p c.find-e.result c.in-Is.n c.in-Is-serial.v c.find-e.ensures (sym c.in-Is.is ∙ c.serial_count.ensures) c.if-n-gt101.false (sym c.in-Is-serial.is ∙ c.serial.ensures) c.put_two.ensures
+    linked-done a.c.now a.rec.now _ a.p c.find-e.result c.in-Some.n c.in-Some-serial.v c.find-e.ensures (sym c.in-Some.is ∙ c.serial_count.ensures) c.if-n-gt101.false (sym c.in-Some-serial.is ∙ c.serial.ensures) c.put_two.ensures

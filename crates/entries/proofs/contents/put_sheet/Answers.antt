@@ -33,4 +33,4 @@ shape_of-rec c = search rules
 pub returns : goal.returns
 returns c =
     let a = c.args in
-    sheet-done a.c.now sheets a.rec.now _ a.p c.in-Is.z (sym c.in-Is.is ∙ c.sheet.ensures) c.put_two.ensures
+    sheet-done a.c.now sheets a.rec.now _ a.p c.in-Some.z (sym c.in-Some.is ∙ c.sheet.ensures) c.put_two.ensures

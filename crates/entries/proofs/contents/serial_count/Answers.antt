@@ -75,7 +75,7 @@ loop-e-preserved c =
     let v = c.loop-e.invariant in
     let j = c.loop-e.e + 1 in
     let q = c.find.ensures ∙ ap (λ (u : List ℕ). length (up_to 44 u)) (rest_all j l) in
-    (omega (arith, c.loop-e-test.true), omega (arith, v.1, v.2), ap (λ (n : ℕ). j + n) q, count-more l c.loop-e.i c.loop-e.n c.loop-e.e v.0 v.2 v.3 _ c.loop-e-test.true (sym c.in-Is.is ∙ c.serial.ensures))
+    (omega (arith, c.loop-e-test.true), omega (arith, v.1, v.2), ap (λ (n : ℕ). j + n) q, count-more l c.loop-e.i c.loop-e.n c.loop-e.e v.0 v.2 v.3 _ c.loop-e-test.true (sym c.in-Some.is ∙ c.serial.ensures))
 
 pub slice_bounds-serial-count-2 : goal.slice_bounds-serial-count-2
 slice_bounds-serial-count-2 c = search rules
@@ -89,8 +89,8 @@ slice_bounds-serial-end-2 c = search rules
 pub serial-requires-2 : goal.serial-requires-2
 serial-requires-2 c = search rules
 
-pub enum_told-in-Is-serial : goal.enum_told-in-Is-serial
-enum_told-in-Is-serial c = search rules
+pub enum_told-in-Some-serial : goal.enum_told-in-Some-serial
+enum_told-in-Some-serial c = search rules
 
 pub enum_told-in_default-serial : goal.enum_told-in_default-serial
 enum_told-in_default-serial c = search rules
@@ -106,4 +106,4 @@ overflow_add-result c = search rules
 pub returns : goal.returns
 returns c =
     let v = c.loop-e.invariant in
-    count-end c.args.c.now c.loop-e.i c.loop-e.n c.loop-e.e v.0 v.2 v.3 _ c.loop-e-test.false (sym c.in-Is-serial.is ∙ c.serial-2.ensures)
+    count-end c.args.c.now c.loop-e.i c.loop-e.n c.loop-e.e v.0 v.2 v.3 _ c.loop-e-test.false (sym c.in-Some-serial.is ∙ c.serial-2.ensures)

@@ -22,12 +22,12 @@ in_bound-requires c = search rules
 
 pub returns-then-in_bound : goal.returns-then-in_bound
 returns-then-in_bound c =
-    let z = c.in-Is.d.value in
+    let z = c.in-Some.d.value in
     let f : SFits w64 z = search rules in
-    rw (to_z-of_z f) (reading-is (in_bound (bound_of c.args.bound)) 11 z c.args.r c.in-Is.is (sym (rw (to_z-of_z f) at c.in_bound.ensures) ∙ c.if-in_bound.true))
+    rw (to_z-of_z f) (reading-is (in_bound (bound_of c.args.bound)) 11 z c.args.r c.in-Some.is (sym (rw (to_z-of_z f) at c.in_bound.ensures) ∙ c.if-in_bound.true))
 
 pub returns : goal.returns
 returns c =
-    let z = c.in-Is.d.value in
+    let z = c.in-Some.d.value in
     let f : SFits w64 z = search rules in
-    reading-bad (in_bound (bound_of c.args.bound)) 11 z c.args.r c.in-Is.is (sym (rw (to_z-of_z f) at c.in_bound.ensures) ∙ c.if-in_bound.false)
+    reading-bad (in_bound (bound_of c.args.bound)) 11 z c.args.r c.in-Some.is (sym (rw (to_z-of_z f) at c.in_bound.ensures) ∙ c.if-in_bound.false)

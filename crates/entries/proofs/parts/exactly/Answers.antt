@@ -21,14 +21,14 @@ equal-requires c = search rules
 
 pub returns-then-equal : goal.returns-then-equal
 returns-then-equal c =
-    let z = c.in-Is.d.value in
+    let z = c.in-Some.d.value in
     let f : SFits w64 z = search rules in
     let g : SFits w64 c.args.n = search rules in
-    rw (to_z-of_z f) (reading-is (equal_z c.args.n) 10 z c.args.r c.in-Is.is (sym (rw (to_z-of_z f, to_z-of_z g) at c.equal.ensures) ∙ c.if-equal.true))
+    rw (to_z-of_z f) (reading-is (equal_z c.args.n) 10 z c.args.r c.in-Some.is (sym (rw (to_z-of_z f, to_z-of_z g) at c.equal.ensures) ∙ c.if-equal.true))
 
 pub returns : goal.returns
 returns c =
-    let z = c.in-Is.d.value in
+    let z = c.in-Some.d.value in
     let f : SFits w64 z = search rules in
     let g : SFits w64 c.args.n = search rules in
-    reading-bad (equal_z c.args.n) 10 z c.args.r c.in-Is.is (sym (rw (to_z-of_z f, to_z-of_z g) at c.equal.ensures) ∙ c.if-equal.false)
+    reading-bad (equal_z c.args.n) 10 z c.args.r c.in-Some.is (sym (rw (to_z-of_z f, to_z-of_z g) at c.equal.ensures) ∙ c.if-equal.false)

@@ -20,17 +20,17 @@ within-requires c = search rules
 pub overflow_cast-result : goal.overflow_cast-result
 overflow_cast-result c =
     let a = c.args in
-    let h = within-below a.lo a.hi c.in-Is.v (sym c.within.ensures ∙ c.if-within.true) in
+    let h = within-below a.lo a.hi c.in-Some.v (sym c.within.ensures ∙ c.if-within.true) in
     omega (arith, h, c.requires)
 
 pub returns-then-within : goal.returns-then-within
 returns-then-within c =
     let a = c.args in
     let t = sym c.within.ensures ∙ c.if-within.true in
-    let h = within-below a.lo a.hi c.in-Is.v t in
-    count-is (in_range a.lo a.hi) a.otherwise c.in-Is.v a.n c.in-Is.is (omega (arith, h, c.requires)) t
+    let h = within-below a.lo a.hi c.in-Some.v t in
+    count-is (in_range a.lo a.hi) a.otherwise c.in-Some.v a.n c.in-Some.is (omega (arith, h, c.requires)) t
 
 pub returns : goal.returns
 returns c =
     let a = c.args in
-    count-bad (in_range a.lo a.hi) a.otherwise c.in-Is.v a.n c.in-Is.is (sym c.within.ensures ∙ c.if-within.false)
+    count-bad (in_range a.lo a.hi) a.otherwise c.in-Some.v a.n c.in-Some.is (sym c.within.ensures ∙ c.if-within.false)

@@ -12,10 +12,10 @@ overflow_cast-result c = search rules
 pub enum_told-1 : goal.enum_told-1
 enum_told-1 c = search rules
 
-pub returns-in-At : goal.returns-in-At
-returns-in-At c =
-    let h : c.in-At.n < 4294967296 = search rules in
-    numbered_is c.args.otherwise c.in-At.n c.args.i c.in-At.is h
+pub returns-in-Some : goal.returns-in-Some
+returns-in-Some c =
+    let h : c.in-Some.n < 4294967296 = search rules in
+    numbered_is c.args.otherwise c.in-Some.n c.args.i c.in-Some.is h
 
 pub returns-in-None : goal.returns-in-None
 returns-in-None c = rw c.in-None.is

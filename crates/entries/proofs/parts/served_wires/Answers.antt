@@ -19,17 +19,17 @@ is_wire_range-requires c = search rules
 
 pub overflow_cast-result : goal.overflow_cast-result
 overflow_cast-result c =
-    let h = wires-below c.in-Is.v (sym c.is_wire_range.ensures ∙ c.if-is_wire_range.true) in
+    let h = wires-below c.in-Some.v (sym c.is_wire_range.ensures ∙ c.if-is_wire_range.true) in
     omega (arith, h)
 
 pub returns-then-is_wire_range : goal.returns-then-is_wire_range
 returns-then-is_wire_range c =
-    let v = c.in-Is.v in
+    let v = c.in-Some.v in
     let t = sym c.is_wire_range.ensures ∙ c.if-is_wire_range.true in
     let h = wires-below v t in
-    count-is served_wires 12 v c.args.n c.in-Is.is (omega (arith, h)) t
+    count-is served_wires 12 v c.args.n c.in-Some.is (omega (arith, h)) t
 
 pub returns : goal.returns
 returns c =
-    let v = c.in-Is.v in
-    count-bad served_wires 12 v c.args.n c.in-Is.is (sym c.is_wire_range.ensures ∙ c.if-is_wire_range.false)
+    let v = c.in-Some.v in
+    count-bad served_wires 12 v c.args.n c.in-Some.is (sym c.is_wire_range.ensures ∙ c.if-is_wire_range.false)

@@ -58,23 +58,23 @@ enum_told-1 c = search rules
 pub entered-requires : goal.entered-requires
 entered-requires c = search rules
 
-pub shape_of-rec-in-Refused : goal.shape_of-rec-in-Refused
-shape_of-rec-in-Refused c = search rules
+pub shape_of-rec-in-Err : goal.shape_of-rec-in-Err
+shape_of-rec-in-Err c = search rules
 
-pub returns-in-Refused : goal.returns-in-Refused
-returns-in-Refused c =
+pub returns-in-Err : goal.returns-in-Err
+returns-in-Err c =
     let a = c.args in
     let f = form-by c.args.s.now c.args.shape ∙ ap (λ (n : ℕ). not (eqb n 4)) (sym c.sort_of-sort.ensures) in
     rw (f ∙ ap not (ne_eqb c.sort_of-sort.result 4 c.if-sort-eq-SORT_FORMLESS.false), sym c.reaches.ensures ∙ not-false c.reaches.result c.if-not-reaches.false-raw, sym c.fits.ensures ∙ not-false c.fits.result c.if-not-fits.false-raw, c.twice.ensures ∙ ap not c.if-twice.false)
-    (line_refused a.row.number (rule_of a.row) a.dump a.rec.now _ _ (read_shape (known_in c.args.s.now c.args.symbols.now c.args.layers.now) a.row.number (rule_of a.row) (shape_in a.s.now a.shape)) (λ (b : Act). unless (not a.full) 11 (got b)) _ c.in-Refused.n c.put_shape.ensures c.in-Refused.is)
+    (line_refused a.row.number (rule_of a.row) a.dump a.rec.now _ _ (read_shape (known_in c.args.s.now c.args.symbols.now c.args.layers.now) a.row.number (rule_of a.row) (shape_in a.s.now a.shape)) (λ (b : Act). unless (not a.full) 11 (got b)) _ c.in-Err.n c.put_shape.ensures c.in-Err.is)
 
-pub shape_of-rec-in-Done : goal.shape_of-rec-in-Done
-shape_of-rec-in-Done c = search rules
+pub shape_of-rec-in-Ok : goal.shape_of-rec-in-Ok
+shape_of-rec-in-Ok c = search rules
 
-pub returns-in-Done : goal.returns-in-Done
-returns-in-Done c =
+pub returns-in-Ok : goal.returns-in-Ok
+returns-in-Ok c =
     let a = c.args in
     let f = form-by c.args.s.now c.args.shape ∙ ap (λ (n : ℕ). not (eqb n 4)) (sym c.sort_of-sort.ensures) in
     let e = c.entered.ensures ∙ ap (next_for a.full a.row.number (inner_of (kind_of a.row))) c.sort_of-sort.ensures in
     rw (f ∙ ap not (ne_eqb c.sort_of-sort.result 4 c.if-sort-eq-SORT_FORMLESS.false), sym c.reaches.ensures ∙ not-false c.reaches.result c.if-not-reaches.false-raw, sym c.fits.ensures ∙ not-false c.fits.result c.if-not-fits.false-raw, c.twice.ensures ∙ ap not c.if-twice.false, e)
-    (line-entered a.row.number (rule_of a.row) a.dump a.rec.now _ _ (known_in c.args.s.now c.args.symbols.now c.args.layers.now) a.s.now a.shape a.full c.put_shape.ensures c.in-Done.is)
+    (line-entered a.row.number (rule_of a.row) a.dump a.rec.now _ _ (known_in c.args.s.now c.args.symbols.now c.args.layers.now) a.s.now a.shape a.full c.put_shape.ensures c.in-Ok.is)

@@ -47,4 +47,4 @@ shape_of-rec c = search rules
 pub returns : goal.returns
 returns c =
     let a = c.args in
-    line-done (read_kind (known_in c.args.s.now c.args.symbols.now c.args.layers.now) (kind_of a.row) a.p.at (bytes_at a.s.now a.p)) (rule_of a.row) a.dump a.rec.now _ _ (rw (c.part.ensures, c.place_of.ensures) at c.read_kind-a.ensures) _ (given-kind (known_in c.args.s.now c.args.symbols.now c.args.layers.now) (kind_of a.row) a.p.at (bytes_at a.s.now a.p)) c.in-Done.is c.put_state.ensures
+    line-done (read_kind (known_in c.args.s.now c.args.symbols.now c.args.layers.now) (kind_of a.row) a.p.at (bytes_at a.s.now a.p)) (rule_of a.row) a.dump a.rec.now _ _ (rw (c.part.ensures, c.place_of.ensures) at c.read_kind-a.ensures) _ (given-kind (known_in c.args.s.now c.args.symbols.now c.args.layers.now) (kind_of a.row) a.p.at (bytes_at a.s.now a.p)) c.in-Ok.is c.put_state.ensures

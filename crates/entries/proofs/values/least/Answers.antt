@@ -20,14 +20,14 @@ pub enum_told-in_default-b : goal.enum_told-in_default-b
 enum_told-in_default-b c = search rules
 
 pub returns-in_default-b : goal.returns-in_default-b
-returns-in_default-b c = rw (c.in-Refused.is, c.in_default-b.is)
+returns-in_default-b c = rw (c.in-Err.is, c.in_default-b.is)
 
 pub returns-then-n-m : goal.returns-then-n-m
 returns-then-n-m c =
-    let e : min c.in-Refused.m c.in-Refused-b.n ≡ c.in-Refused-b.n = omega (arith, c.if-n-m.true) in
-    rw (c.in-Refused.is, c.in-Refused-b.is, e)
+    let e : min c.in-Err.m c.in-Err-b.n ≡ c.in-Err-b.n = omega (arith, c.if-n-m.true) in
+    rw (c.in-Err.is, c.in-Err-b.is, e)
 
 pub returns : goal.returns
 returns c =
-    let e : min c.in-Refused.m c.in-Refused-b.n ≡ c.in-Refused.m = omega (arith, c.if-n-m.false) in
-    rw (c.in-Refused.is, c.in-Refused-b.is, e)
+    let e : min c.in-Err.m c.in-Err-b.n ≡ c.in-Err.m = omega (arith, c.if-n-m.false) in
+    rw (c.in-Err.is, c.in-Err-b.is, e)

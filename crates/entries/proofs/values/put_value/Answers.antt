@@ -14,16 +14,16 @@ offset_bounds-rec-p c = search rules
 pub bounds-rec-p : goal.bounds-rec-p
 bounds-rec-p c = search rules
 
-pub enum_known-v-in-Bad-1 : goal.enum_known-v-in-Bad-1
-enum_known-v-in-Bad-1 c = search rules
+pub enum_known-v-in-Err-1 : goal.enum_known-v-in-Err-1
+enum_known-v-in-Err-1 c = search rules
 
 pub shape_of-rec : goal.shape_of-rec
 shape_of-rec c = search rules
 
-pub returns-in-Is : goal.returns-in-Is
-returns-in-Is c =
-    let f : SFits w64 c.in-Is.z = search rules in
-    rw (c.in-Is.is, to_z-of_z f) (refl, refl)
+pub returns-in-Ok : goal.returns-in-Ok
+returns-in-Ok c =
+    let f : SFits w64 c.in-Ok.z = search rules in
+    rw (c.in-Ok.is, to_z-of_z f) (refl, refl)
 
-pub returns-in-Bad : goal.returns-in-Bad
-returns-in-Bad c = rw c.in-Bad.is (refl, refl)
+pub returns-in-Err : goal.returns-in-Err
+returns-in-Err c = rw c.in-Err.is (refl, refl)

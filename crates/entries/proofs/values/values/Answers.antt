@@ -53,7 +53,7 @@ pub returns-then-f : goal.returns-then-f
 returns-then-f c =
     let f = c.forms_for-f in
     let a = c.args in
-    values_turnless (known_in a.s.now a.symbols.now a.layers.now) a.row a.c.now f.result f.ensures a.rec.now _ a.p _ c.each-a.ensures c.if-f.true c.in-Done.is
+    values_turnless (known_in a.s.now a.symbols.now a.layers.now) a.row a.c.now f.result f.ensures a.rec.now _ a.p _ c.each-a.ensures c.if-f.true c.in-Ok.is
 
 pub agree-requires : goal.agree-requires
 agree-requires c =
@@ -70,7 +70,7 @@ pub returns-then-agree : goal.returns-then-agree
 returns-then-agree c =
     let f = c.forms_for-f in
     let a = c.args in
-    values-told (known_in a.s.now a.symbols.now a.layers.now) a.row a.c.now f.result f.ensures a.rec.now _ a.p _ c.each-a.ensures true c.if-f.false c.in-Done.is c.requires.4 c.requires.3 (sym c.agree.ensures ∙ c.if-agree.true)
+    values-told (known_in a.s.now a.symbols.now a.layers.now) a.row a.c.now f.result f.ensures a.rec.now _ a.p _ c.each-a.ensures true c.if-f.false c.in-Ok.is c.requires.4 c.requires.3 (sym c.agree.ensures ∙ c.if-agree.true)
 
 pub shape_of-rec : goal.shape_of-rec
 shape_of-rec c = search rules
@@ -79,4 +79,4 @@ pub returns : goal.returns
 returns c =
     let f = c.forms_for-f in
     let a = c.args in
-    values-told (known_in a.s.now a.symbols.now a.layers.now) a.row a.c.now f.result f.ensures a.rec.now _ a.p _ c.each-a.ensures false c.if-f.false c.in-Done.is c.requires.4 c.requires.3 (sym c.agree.ensures ∙ c.if-agree.false)
+    values-told (known_in a.s.now a.symbols.now a.layers.now) a.row a.c.now f.result f.ensures a.rec.now _ a.p _ c.each-a.ensures false c.if-f.false c.in-Ok.is c.requires.4 c.requires.3 (sym c.agree.ensures ∙ c.if-agree.false)

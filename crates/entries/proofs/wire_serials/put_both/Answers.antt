@@ -37,4 +37,4 @@ shape_of-rec c = search rules
 pub returns : goal.returns
 returns c =
     let a = c.args in
-    ends-put a.first.now a.last.now a.rec.now a.p c.find.result c.find.ensures _ _ _ c.if-find-last.false (rw c.in-Done.is at c.put_partner.ensures) c.put_partner-2.ensures
+    ends-put a.first.now a.last.now a.rec.now a.p c.find.result c.find.ensures _ _ _ c.if-find-last.false (rw c.in-Ok.is at c.put_partner.ensures) c.put_partner-2.ensures

@@ -28,7 +28,7 @@ returns-in_default c = let a = c.args in partner-bad a.c.now a.rec.now _ a.p c.i
 
 pub put_two-requires-2 : goal.put_two-requires-2
 put_two-requires-2 c =
-    let h = count-below 10 c.args.c.now c.in-Is.v (sym c.serial.ensures ∙ c.in-Is.is) in
+    let h = count-below 10 c.args.c.now c.in-Some.v (sym c.serial.ensures ∙ c.in-Some.is) in
     (omega arith, omega (arith, h), c.requires)
 
 pub shape_of-rec : goal.shape_of-rec
@@ -37,4 +37,4 @@ shape_of-rec c = search rules
 pub returns : goal.returns
 returns c =
     let a = c.args in
-    partner-given a.c.now a.rec.now _ a.p c.in-Is.v c.if-c-eq0.false (sym c.in-Is.is ∙ c.serial.ensures) c.put_two-2.ensures
+    partner-given a.c.now a.rec.now _ a.p c.in-Some.v c.if-c-eq0.false (sym c.in-Some.is ∙ c.serial.ensures) c.put_two-2.ensures

@@ -38,8 +38,8 @@ pub overflow_cast-rec : goal.overflow_cast-rec
 overflow_cast-rec c =
     let s = c.args.c.now in
     let e = c.find-e.result in
-    let n = c.in-Is.v in
-    let h = count-below 10 (take e s) n (sym c.serial.ensures ∙ c.in-Is.is) in
+    let n = c.in-Some.v in
+    let h = count-below 10 (take e s) n (sym c.serial.ensures ∙ c.in-Some.is) in
     fits_pos n (omega (arith, h))
 
 pub offset_bounds-rec-p : goal.offset_bounds-rec-p
@@ -66,17 +66,17 @@ overflow_add-p c = search rules
 pub put_ends-requires : goal.put_ends-requires
 put_ends-requires c =
     let a = c.args in
-    omega (arith, length-set a.rec.now a.p (to_z w64 c.in-Is.v), c.requires)
+    omega (arith, length-set a.rec.now a.p (to_z w64 c.in-Some.v), c.requires)
 
 pub shape_of-rec : goal.shape_of-rec
-shape_of-rec c = c.put_ends.auto.rec ∙ length-set c.args.rec.now c.args.p (to_z w64 c.in-Is.v)
+shape_of-rec c = c.put_ends.auto.rec ∙ length-set c.args.rec.now c.args.p (to_z w64 c.in-Some.v)
 
 pub returns : goal.returns
 returns c =
     let s = c.args.c.now in
     let e = c.find-e.result in
-    let n = c.in-Is.v in
-    let h = count-below 10 (take e s) n (sym c.serial.ensures ∙ c.in-Is.is) in
+    let n = c.in-Some.v in
+    let h = count-below 10 (take e s) n (sym c.serial.ensures ∙ c.in-Some.is) in
     let a = c.args in
     let m = rw (rest_all (e + 1) s, pos-back n (omega (arith, h))) at c.put_ends.ensures in
-    serial-put s a.rec.now a.p e c.find-e.ensures c.if-c-e.false n _ _ (sym c.in-Is.is ∙ c.serial.ensures) m
+    serial-put s a.rec.now a.p e c.find-e.ensures c.if-c-e.false n _ _ (sym c.in-Some.is ∙ c.serial.ensures) m

@@ -18,8 +18,8 @@ has_own-requires c = search rules
 pub enum_told-1 : goal.enum_told-1
 enum_told-1 c = search rules
 
-pub returns-in-Is : goal.returns-in-Is
-returns-in-Is c = c.has_own.ensures ∙ sym (piece_is (λ n. has_number n (owns_of c.args.kept.now)) (read_count 10 c.args.piece.now) _ (sym c.in-Is.is ∙ c.serial.ensures))
+pub returns-in-Some : goal.returns-in-Some
+returns-in-Some c = c.has_own.ensures ∙ sym (piece_is (λ n. has_number n (owns_of c.args.kept.now)) (read_count 10 c.args.piece.now) _ (sym c.in-Some.is ∙ c.serial.ensures))
 
-pub returns-in-Not : goal.returns-in-Not
-returns-in-Not c = sym (piece-not (λ n. has_number n (owns_of c.args.kept.now)) (read_count 10 c.args.piece.now) (sym c.in-Not.is ∙ c.serial.ensures))
+pub returns-in-None : goal.returns-in-None
+returns-in-None c = sym (piece-not (λ n. has_number n (owns_of c.args.kept.now)) (read_count 10 c.args.piece.now) (sym c.in-None.is ∙ c.serial.ensures))

@@ -19,4 +19,4 @@ pub returns-in_default : goal.returns-in_default
 returns-in_default c = seen_end c.args.body.now c.args.v c.args.p (sym c.look-seen.ensures ∙ c.in_default.is)
 
 pub returns : goal.returns
-returns c = seen-line c.args.body.now c.args.v c.args.p _ (sym c.look-seen.ensures ∙ c.in-Line.is)
+returns c = seen-line c.args.body.now c.args.v c.args.p _ (sym c.look-seen.ensures ∙ c.in-Some.is)

@@ -21,7 +21,7 @@ pub is_clock-requires : goal.is_clock-requires
 is_clock-requires c = tt
 
 pub returns-then-is_clock : goal.returns-then-is_clock
-returns-then-is_clock c = sym (kept_yes is_clock (read_fixed 6 c.args.s.now) _ (sym c.digits-d.ensures ∙ c.in-Is.is) (sym c.is_clock.ensures ∙ c.if-is_clock.true))
+returns-then-is_clock c = sym (kept_yes is_clock (read_fixed 6 c.args.s.now) _ (sym c.digits-d.ensures ∙ c.in-Some.is) (sym c.is_clock.ensures ∙ c.if-is_clock.true))
 
 pub returns : goal.returns
-returns c = sym (kept_no is_clock (read_fixed 6 c.args.s.now) _ (sym c.digits-d.ensures ∙ c.in-Is.is) (sym c.is_clock.ensures ∙ c.if-is_clock.false))
+returns c = sym (kept_no is_clock (read_fixed 6 c.args.s.now) _ (sym c.digits-d.ensures ∙ c.in-Some.is) (sym c.is_clock.ensures ∙ c.if-is_clock.false))

@@ -21,7 +21,7 @@ pub is_day-requires : goal.is_day-requires
 is_day-requires c = tt
 
 pub returns-then-is_day : goal.returns-then-is_day
-returns-then-is_day c = sym (kept_yes is_day (read_fixed 8 c.args.s.now) _ (sym c.digits-d.ensures ∙ c.in-Is.is) (sym c.is_day.ensures ∙ c.if-is_day.true))
+returns-then-is_day c = sym (kept_yes is_day (read_fixed 8 c.args.s.now) _ (sym c.digits-d.ensures ∙ c.in-Some.is) (sym c.is_day.ensures ∙ c.if-is_day.true))
 
 pub returns : goal.returns
-returns c = sym (kept_no is_day (read_fixed 8 c.args.s.now) _ (sym c.digits-d.ensures ∙ c.in-Is.is) (sym c.is_day.ensures ∙ c.if-is_day.false))
+returns c = sym (kept_no is_day (read_fixed 8 c.args.s.now) _ (sym c.digits-d.ensures ∙ c.in-Some.is) (sym c.is_day.ensures ∙ c.if-is_day.false))

@@ -3,7 +3,7 @@ use mathlib.Core.Path.{◌≡◌, refl, ap, sym, ◌∙◌}
 use native.Mathlib.Omega.{arith}
 use lib.ListN.{length, get_or, drop}
 use borrow.Author.Tests.{not-true, not-false}
-use Rattle.leaves.specs.Readings.{count_of, run_from}
+use Rattle.leaves.specs.Readings.{run_from}
 use Rattle.leaves.proofs.Digits.{digit_bounds, run_step, run-stop, run_end, ten-times, ten-most}
 use Rattle.leaves.proofs.numbers.digits_from.Goals as goal
 
@@ -17,7 +17,7 @@ pub digit-requires : goal.digit-requires
 digit-requires c = tt
 
 pub returns-then-not-digit : goal.returns-then-not-digit
-returns-then-not-digit c = ap count_of (sym (c.loop-i.invariant.2 ∙ run-stop _ _ _ c.loop-i-test.true (sym c.digit.ensures ∙ not-true _ c.if-not-digit.true-raw)))
+returns-then-not-digit c = sym (c.loop-i.invariant.2 ∙ run-stop _ _ _ c.loop-i-test.true (sym c.digit.ensures ∙ not-true _ c.if-not-digit.true-raw))
 
 pub overflow_mul-v : goal.overflow_mul-v
 overflow_mul-v c = omega (arith, ten-most c.loop-i.i 10 (omega arith))
@@ -46,4 +46,4 @@ loop-i-preserved c =
     (omega arith, ten-times c.loop-i.v _ c.loop-i.i c.loop-i.invariant.1 (omega arith), c.loop-i.invariant.2 ∙ run_step c.loop-i.v _ c.loop-i.i c.loop-i-test.true e)
 
 pub returns : goal.returns
-returns c = ap count_of (sym (c.loop-i.invariant.2 ∙ run_end _ _ _ c.loop-i-test.false))
+returns c = sym (c.loop-i.invariant.2 ∙ run_end _ _ _ c.loop-i-test.false)

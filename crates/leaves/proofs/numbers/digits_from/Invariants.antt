@@ -3,7 +3,7 @@ use mathlib.Core.Path.{◌≡◌, refl, ap, sym, ◌∙◌}
 use native.Mathlib.Omega.{arith}
 use lib.ListN.{length, get_or, drop}
 use borrow.Author.Tests.{not-true, not-false}
-use Rattle.leaves.specs.Readings.{count_of, run_from}
+use Rattle.leaves.specs.Readings.{run_from}
 use Rattle.leaves.proofs.Digits.{digit_bounds, run_step, run-stop, run_end, ten-times, ten-most}
 use Rattle.leaves.proofs.numbers.digits_from.Given as goal
 

@@ -21,12 +21,12 @@ pub within-requires : goal.within-requires
 within-requires c = search rules
 
 pub overflow_cast-result : goal.overflow_cast-result
-overflow_cast-result c = record { fits = omega (arith, leb-true c.in-Is.p 99999 (and_right (leb 1 c.in-Is.p) _ (sym c.within.ensures ∙ c.if-within.true))) }
+overflow_cast-result c = record { fits = omega (arith, leb-true c.in-Some.p 99999 (and_right (leb 1 c.in-Some.p) _ (sym c.within.ensures ∙ c.if-within.true))) }
 
 pub returns-then-within : goal.returns-then-within
 unfolding one_count
-returns-then-within c = sym (rw (c.in-Is.is, sym c.within.ensures ∙ c.if-within.true))
+returns-then-within c = sym (rw (c.in-Some.is, sym c.within.ensures ∙ c.if-within.true))
 
 pub returns : goal.returns
 unfolding one_count
-returns c = sym (rw (c.in-Is.is, sym c.within.ensures ∙ c.if-within.false))
+returns c = sym (rw (c.in-Some.is, sym c.within.ensures ∙ c.if-within.false))

@@ -40,10 +40,10 @@ pub put-requires : goal.put-requires
 put-requires c = search rules
 
 pub overflow_add-result : goal.overflow_add-result
-overflow_add-result c = record { fits = omega (arith, both-room c.args.first.now _ c.args.out.now _ _ c.if-out-n.false c.put-rest.ensures c.in-Bytes.m c.in-Bytes.is) }
+overflow_add-result c = record { fits = omega (arith, both-room c.args.first.now _ c.args.out.now _ _ c.if-out-n.false c.put-rest.ensures c.in-Ok.m c.in-Ok.is) }
 
 pub shape_of-out : goal.shape_of-out
 shape_of-out c = search rules
 
 pub returns : goal.returns
-returns c = both_bytes c.args.first.now _ c.args.out.now _ _ c.if-out-n.false c.put-rest.ensures c.in-Bytes.m c.in-Bytes.is _ _ c.put.ensures
+returns c = both_bytes c.args.first.now _ c.args.out.now _ _ c.if-out-n.false c.put-rest.ensures c.in-Ok.m c.in-Ok.is _ _ c.put.ensures

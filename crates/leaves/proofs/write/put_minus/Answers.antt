@@ -39,10 +39,10 @@ pub bounds-out-0 : goal.bounds-out-0
 bounds-out-0 c = search rules
 
 pub overflow_add-result : goal.overflow_add-result
-overflow_add-result c = omega (arith, behind-room 45 _ _ _ c.args.out.now c.if-out-eq0.false c.in-Bytes.n c.put_size-size.ensures c.in-Bytes.is)
+overflow_add-result c = omega (arith, behind-room 45 _ _ _ c.args.out.now c.if-out-eq0.false c.in-Ok.n c.put_size-size.ensures c.in-Ok.is)
 
 pub shape_of-out : goal.shape_of-out
 shape_of-out c = search rules
 
 pub returns : goal.returns
-returns c = behind-bytes 45 _ _ _ c.args.out.now c.if-out-eq0.false c.in-Bytes.n c.put_size-size.ensures c.in-Bytes.is
+returns c = behind-bytes 45 _ _ _ c.args.out.now c.if-out-eq0.false c.in-Ok.n c.put_size-size.ensures c.in-Ok.is

@@ -71,7 +71,7 @@ pub loop-at-smaller : goal.loop-at-smaller
 loop-at-smaller c = omega (arith, c.loop-at-test.true)
 
 pub loop-at-preserved : goal.loop-at-preserved
-loop-at-preserved c = laws.walk_more _ _ _ _ _ c.loop-at.invariant _ c.loop-at-test.true c.if-count-eq-MOST_VOLUMES.false (sym (ap head_in (laws.tail-is c.args.s.now c.loop-at.at)) ∙ sym c.head_of.ensures ∙ c.in-Holds.is)
+loop-at-preserved c = laws.walk_more _ _ _ _ _ c.loop-at.invariant _ c.loop-at-test.true c.if-count-eq-MOST_VOLUMES.false (sym (ap head_in (laws.tail-is c.args.s.now c.loop-at.at)) ∙ sym c.head_of.ensures ∙ c.in-Some.is)
 
 pub overflow_cast-result : goal.overflow_cast-result
 overflow_cast-result c = omega arith

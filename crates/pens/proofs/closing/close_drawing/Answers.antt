@@ -31,7 +31,7 @@ pub overflow_add-to : goal.overflow_add-to
 overflow_add-to c =
     let args = c.args in
     let pre = c.requires in
-    record { fits = omega (arith, room-left args.out.now args.pen.at pre.within _ _ c.put_rows.ensures.0 c.in-Bytes.n c.in-Bytes.is) }
+    record { fits = omega (arith, room-left args.out.now args.pen.at pre.within _ _ c.put_rows.ensures.0 c.in-Ok.n c.in-Ok.is) }
 
 pub slice_bounds-exchange-count : goal.slice_bounds-exchange-count
 slice_bounds-exchange-count c = search rules
@@ -44,7 +44,7 @@ slice_bounds-exchange-end c =
     let args = c.args in
     let pre = c.requires in
     let the-put-rows = c.put_rows in
-    omega (arith, room-left args.out.now args.pen.at pre.within _ _ the-put-rows.ensures.0 c.in-Bytes.n c.in-Bytes.is, kept-long args.out.now args.pen.at pre.within _ _ the-put-rows.ensures.0)
+    omega (arith, room-left args.out.now args.pen.at pre.within _ _ the-put-rows.ensures.0 c.in-Ok.n c.in-Ok.is, kept-long args.out.now args.pen.at pre.within _ _ the-put-rows.ensures.0)
 
 pub overflow_sub-middle : goal.overflow_sub-middle
 overflow_sub-middle c = search rules
@@ -57,32 +57,32 @@ at_block-requires c =
     let args = c.args in
     let pre = c.requires in
     let the-put-rows = c.put_rows in
-    omega (arith, room-left args.out.now args.pen.at pre.within _ _ the-put-rows.ensures.0 c.in-Bytes.n c.in-Bytes.is)
+    omega (arith, room-left args.out.now args.pen.at pre.within _ _ the-put-rows.ensures.0 c.in-Ok.n c.in-Ok.is)
 
 pub shut-requires : goal.shut-requires
 shut-requires c =
     let args = c.args in
     let pre = c.requires in
     let the-put-rows = c.put_rows in
-    safe-there args.pen _ c.in-Bytes.n 2 c.at_block.ensures _ pre.begun (turned-room args.out.now args.pen.at pre.within _ _ the-put-rows.ensures.0 c.in-Bytes.n c.in-Bytes.is args.pen.start _ c.exchange.ensures)
+    safe-there args.pen _ c.in-Ok.n 2 c.at_block.ensures _ pre.begun (turned-room args.out.now args.pen.at pre.within _ _ the-put-rows.ensures.0 c.in-Ok.n c.in-Ok.is args.pen.start _ c.exchange.ensures)
 
-pub shape_of-out-in-Full : goal.shape_of-out-in-Full
-shape_of-out-in-Full c = search rules
+pub shape_of-out-in-Err : goal.shape_of-out-in-Err
+shape_of-out-in-Err c = search rules
 
-pub returns-in-Full : goal.returns-in-Full
-returns-in-Full c =
+pub returns-in-Err : goal.returns-in-Err
+returns-in-Err c =
     let args = c.args in
     let pre = c.requires in
     let the-put-rows = c.put_rows in
-    (kept_full args.out.now args.pen.at pre.within _ _ the-put-rows.ensures.0, λ k s z. inserted-none (drawing_rows k s) shut_bytes args.pen.start args.pen.at _ args.out.now _ (no_room args.out.now args.pen.at pre.within _ _ _ (the-put-rows.ensures.1 refl k (s ∷ []) 0 (drawing-part _ k _ s z) (tables-some 7) refl) c.in-Full.is))
+    (kept_full args.out.now args.pen.at pre.within _ _ the-put-rows.ensures.0, λ k s z. inserted-none (drawing_rows k s) shut_bytes args.pen.start args.pen.at _ args.out.now _ (no_room args.out.now args.pen.at pre.within _ _ _ (the-put-rows.ensures.1 refl k (s ∷ []) 0 (drawing-part _ k _ s z) (tables-some 7) refl) c.in-Err.is))
 
-pub shape_of-out-in-Bytes : goal.shape_of-out-in-Bytes
-shape_of-out-in-Bytes c = search rules
+pub shape_of-out-in-Ok : goal.shape_of-out-in-Ok
+shape_of-out-in-Ok c = search rules
 
-pub returns-in-Bytes : goal.returns-in-Bytes
-returns-in-Bytes c =
+pub returns-in-Ok : goal.returns-in-Ok
+returns-in-Ok c =
     let args = c.args in
     let pre = c.requires in
     let the-put-rows = c.put_rows in
     let the-exchange = c.exchange in
-    (kept_then _ _ _ _ (turned_same args.out.now args.pen.at pre.within _ _ the-put-rows.ensures.0 c.in-Bytes.n c.in-Bytes.is args.pen.start _ the-exchange.ensures) c.shut.ensures.0, λ k s z. let l = lays args.out.now args.pen.at pre.within _ _ (drawing_rows k s) (the-put-rows.ensures.1 refl k (s ∷ []) 0 (drawing-part _ k _ s z) (tables-some 7) refl) c.in-Bytes.n c.in-Bytes.is in inserted (drawing_rows k s) c.in-Bytes.n args.pen.at args.out.now _ l args.pen.start pre.begun _ the-exchange.ensures shut_bytes _ _ _ (shut_at args.pen _ c.in-Bytes.n 2 c.at_block.ensures (length (drawing_rows k s) + 3) 0 _ _ _ _ (omega (arith, l.size)) refl c.shut.ensures.1))
+    (kept_then _ _ _ _ (turned_same args.out.now args.pen.at pre.within _ _ the-put-rows.ensures.0 c.in-Ok.n c.in-Ok.is args.pen.start _ the-exchange.ensures) c.shut.ensures.0, λ k s z. let l = lays args.out.now args.pen.at pre.within _ _ (drawing_rows k s) (the-put-rows.ensures.1 refl k (s ∷ []) 0 (drawing-part _ k _ s z) (tables-some 7) refl) c.in-Ok.n c.in-Ok.is in inserted (drawing_rows k s) c.in-Ok.n args.pen.at args.out.now _ l args.pen.start pre.begun _ the-exchange.ensures shut_bytes _ _ _ (shut_at args.pen _ c.in-Ok.n 2 c.at_block.ensures (length (drawing_rows k s) + 3) 0 _ _ _ _ (omega (arith, l.size)) refl c.shut.ensures.1))

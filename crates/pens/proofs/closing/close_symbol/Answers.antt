@@ -45,7 +45,7 @@ pub overflow_add-to : goal.overflow_add-to
 overflow_add-to c =
     let args = c.args in
     let pre = c.requires in
-    record { fits = omega (arith, room-left args.out.now args.pen.at pre.0.within _ _ c.put_noted-named.ensures.0 c.in-Bytes.n c.in-Bytes.is) }
+    record { fits = omega (arith, room-left args.out.now args.pen.at pre.0.within _ _ c.put_noted-named.ensures.0 c.in-Ok.n c.in-Ok.is) }
 
 pub slice_bounds-exchange-count : goal.slice_bounds-exchange-count
 slice_bounds-exchange-count c = search rules
@@ -58,7 +58,7 @@ slice_bounds-exchange-end c =
     let args = c.args in
     let pre = c.requires in
     let the-put-noted = c.put_noted-named in
-    omega (arith, room-left args.out.now args.pen.at pre.0.within _ _ the-put-noted.ensures.0 c.in-Bytes.n c.in-Bytes.is, kept-long args.out.now args.pen.at pre.0.within _ _ the-put-noted.ensures.0)
+    omega (arith, room-left args.out.now args.pen.at pre.0.within _ _ the-put-noted.ensures.0 c.in-Ok.n c.in-Ok.is, kept-long args.out.now args.pen.at pre.0.within _ _ the-put-noted.ensures.0)
 
 pub overflow_sub-middle : goal.overflow_sub-middle
 overflow_sub-middle c = search rules
@@ -74,14 +74,14 @@ slice_bounds-put_noted-count-2 c =
     let args = c.args in
     let pre = c.requires in
     let the-put-noted = c.put_noted-named in
-    turned-room args.out.now args.pen.at pre.0.within _ _ the-put-noted.ensures.0 c.in-Bytes.n c.in-Bytes.is args.pen.start _ c.exchange.ensures
+    turned-room args.out.now args.pen.at pre.0.within _ _ the-put-noted.ensures.0 c.in-Ok.n c.in-Ok.is args.pen.start _ c.exchange.ensures
 
 pub slice_bounds-put_noted-start-2 : goal.slice_bounds-put_noted-start-2
 slice_bounds-put_noted-start-2 c =
     let args = c.args in
     let pre = c.requires in
     let the-put-noted = c.put_noted-named in
-    turned-room args.out.now args.pen.at pre.0.within _ _ the-put-noted.ensures.0 c.in-Bytes.n c.in-Bytes.is args.pen.start _ c.exchange.ensures
+    turned-room args.out.now args.pen.at pre.0.within _ _ the-put-noted.ensures.0 c.in-Ok.n c.in-Ok.is args.pen.start _ c.exchange.ensures
 
 pub slice_bounds-put_noted-end-2 : goal.slice_bounds-put_noted-end-2
 slice_bounds-put_noted-end-2 c = search rules
@@ -105,13 +105,13 @@ returns-in_default-walled c =
     let the-put-noted = c.put_noted-named in
     let the-exchange = c.exchange in
     let the-put-noted2 = c.put_noted-walled in
-    (last-full args.out.now args.pen.at pre.0.within _ _ the-put-noted.ensures.0 c.in-Bytes.n c.in-Bytes.is args.pen.start _ the-exchange.ensures _ _ the-put-noted2.ensures.0, λ k a b x y. let l = lays args.out.now args.pen.at pre.0.within _ _ (row_bytes k (rule_at symbol_table 0) a) (the-put-noted.ensures.1 k (rule_at symbol_table 0) a name-row x) c.in-Bytes.n c.in-Bytes.is in inserted (row_bytes k (rule_at symbol_table 0) a) c.in-Bytes.n args.pen.at args.out.now _ l args.pen.start pre.0.begun _ the-exchange.ensures ((row_bytes k (rule_at symbol_table 3) b) ++ shut_bytes) _ _ _ (shut_none (row_bytes k (rule_at symbol_table 3) b) (args.pen.at + c.in-Bytes.n) _ _ _ (last_none args.out.now args.pen.at pre.0.within _ _ the-put-noted.ensures.0 c.in-Bytes.n c.in-Bytes.is args.pen.start _ the-exchange.ensures _ _ (row_bytes k (rule_at symbol_table 3) b) (the-put-noted2.ensures.1 k (rule_at symbol_table 3) b wall-row y) c.in_default-walled.is)))
+    (last-full args.out.now args.pen.at pre.0.within _ _ the-put-noted.ensures.0 c.in-Ok.n c.in-Ok.is args.pen.start _ the-exchange.ensures _ _ the-put-noted2.ensures.0, λ k a b x y. let l = lays args.out.now args.pen.at pre.0.within _ _ (row_bytes k (rule_at symbol_table 0) a) (the-put-noted.ensures.1 k (rule_at symbol_table 0) a name-row x) c.in-Ok.n c.in-Ok.is in inserted (row_bytes k (rule_at symbol_table 0) a) c.in-Ok.n args.pen.at args.out.now _ l args.pen.start pre.0.begun _ the-exchange.ensures ((row_bytes k (rule_at symbol_table 3) b) ++ shut_bytes) _ _ _ (shut_none (row_bytes k (rule_at symbol_table 3) b) (args.pen.at + c.in-Ok.n) _ _ _ (last_none args.out.now args.pen.at pre.0.within _ _ the-put-noted.ensures.0 c.in-Ok.n c.in-Ok.is args.pen.start _ the-exchange.ensures _ _ (row_bytes k (rule_at symbol_table 3) b) (the-put-noted2.ensures.1 k (rule_at symbol_table 3) b wall-row y) c.in_default-walled.is)))
 
 pub overflow_add-n : goal.overflow_add-n
-overflow_add-n c = record { fits = omega (arith, last-room c.args.out.now c.args.pen.at c.requires.0.within _ _ c.put_noted-named.ensures.0 c.in-Bytes.n c.in-Bytes.is c.args.pen.start _ c.exchange.ensures _ _ c.put_noted-walled.ensures.0 c.in-Bytes-walled.m c.in-Bytes-walled.is) }
+overflow_add-n c = record { fits = omega (arith, last-room c.args.out.now c.args.pen.at c.requires.0.within _ _ c.put_noted-named.ensures.0 c.in-Ok.n c.in-Ok.is c.args.pen.start _ c.exchange.ensures _ _ c.put_noted-walled.ensures.0 c.in-Ok-walled.m c.in-Ok-walled.is) }
 
 pub at_block-requires : goal.at_block-requires
-at_block-requires c = omega (arith, last-room c.args.out.now c.args.pen.at c.requires.0.within _ _ c.put_noted-named.ensures.0 c.in-Bytes.n c.in-Bytes.is c.args.pen.start _ c.exchange.ensures _ _ c.put_noted-walled.ensures.0 c.in-Bytes-walled.m c.in-Bytes-walled.is)
+at_block-requires c = omega (arith, last-room c.args.out.now c.args.pen.at c.requires.0.within _ _ c.put_noted-named.ensures.0 c.in-Ok.n c.in-Ok.is c.args.pen.start _ c.exchange.ensures _ _ c.put_noted-walled.ensures.0 c.in-Ok-walled.m c.in-Ok-walled.is)
 
 pub shut-requires : goal.shut-requires
 shut-requires c =
@@ -120,7 +120,7 @@ shut-requires c =
     let the-put-noted = c.put_noted-named in
     let the-exchange = c.exchange in
     let the-put-noted2 = c.put_noted-walled in
-    safe-there args.pen _ (c.in-Bytes.n + c.in-Bytes-walled.m) 5 c.at_block.ensures _ pre.0.begun (omega (arith, last-room args.out.now args.pen.at pre.0.within _ _ the-put-noted.ensures.0 c.in-Bytes.n c.in-Bytes.is args.pen.start _ the-exchange.ensures _ _ the-put-noted2.ensures.0 c.in-Bytes-walled.m c.in-Bytes-walled.is, last-same args.out.now args.pen.at pre.0.within _ _ the-put-noted.ensures.0 c.in-Bytes.n c.in-Bytes.is args.pen.start _ the-exchange.ensures _ _ the-put-noted2.ensures.0))
+    safe-there args.pen _ (c.in-Ok.n + c.in-Ok-walled.m) 5 c.at_block.ensures _ pre.0.begun (omega (arith, last-room args.out.now args.pen.at pre.0.within _ _ the-put-noted.ensures.0 c.in-Ok.n c.in-Ok.is args.pen.start _ the-exchange.ensures _ _ the-put-noted2.ensures.0 c.in-Ok-walled.m c.in-Ok-walled.is, last-same args.out.now args.pen.at pre.0.within _ _ the-put-noted.ensures.0 c.in-Ok.n c.in-Ok.is args.pen.start _ the-exchange.ensures _ _ the-put-noted2.ensures.0))
 
 pub shape_of-out : goal.shape_of-out
 shape_of-out c = search rules
@@ -132,4 +132,4 @@ returns c =
     let the-put-noted = c.put_noted-named in
     let the-exchange = c.exchange in
     let the-put-noted2 = c.put_noted-walled in
-    (kept_then _ _ _ _ (last-same args.out.now args.pen.at pre.0.within _ _ the-put-noted.ensures.0 c.in-Bytes.n c.in-Bytes.is args.pen.start _ the-exchange.ensures _ _ the-put-noted2.ensures.0) c.shut.ensures.0, λ k a b x y. let l = lays args.out.now args.pen.at pre.0.within _ _ (row_bytes k (rule_at symbol_table 0) a) (the-put-noted.ensures.1 k (rule_at symbol_table 0) a name-row x) c.in-Bytes.n c.in-Bytes.is in let m = last-lays args.out.now args.pen.at pre.0.within _ _ the-put-noted.ensures.0 c.in-Bytes.n c.in-Bytes.is args.pen.start _ the-exchange.ensures _ _ (row_bytes k (rule_at symbol_table 3) b) (the-put-noted2.ensures.1 k (rule_at symbol_table 3) b wall-row y) c.in-Bytes-walled.m c.in-Bytes-walled.is in inserted (row_bytes k (rule_at symbol_table 0) a) c.in-Bytes.n args.pen.at args.out.now _ l args.pen.start pre.0.begun _ the-exchange.ensures ((row_bytes k (rule_at symbol_table 3) b) ++ shut_bytes) _ _ _ (drawn_then (row_bytes k (rule_at symbol_table 3) b) c.in-Bytes-walled.m (args.pen.at + c.in-Bytes.n) _ _ m shut_bytes _ _ _ (shut_at args.pen _ (c.in-Bytes.n + c.in-Bytes-walled.m) 5 c.at_block.ensures (length (row_bytes k (rule_at symbol_table 0) a) + (length (row_bytes k (rule_at symbol_table 3) b) + 3)) 4 ((args.pen.at + c.in-Bytes.n) + c.in-Bytes-walled.m) _ _ _ (omega (arith, l.size, m.size)) (omega arith) c.shut.ensures.1)))
+    (kept_then _ _ _ _ (last-same args.out.now args.pen.at pre.0.within _ _ the-put-noted.ensures.0 c.in-Ok.n c.in-Ok.is args.pen.start _ the-exchange.ensures _ _ the-put-noted2.ensures.0) c.shut.ensures.0, λ k a b x y. let l = lays args.out.now args.pen.at pre.0.within _ _ (row_bytes k (rule_at symbol_table 0) a) (the-put-noted.ensures.1 k (rule_at symbol_table 0) a name-row x) c.in-Ok.n c.in-Ok.is in let m = last-lays args.out.now args.pen.at pre.0.within _ _ the-put-noted.ensures.0 c.in-Ok.n c.in-Ok.is args.pen.start _ the-exchange.ensures _ _ (row_bytes k (rule_at symbol_table 3) b) (the-put-noted2.ensures.1 k (rule_at symbol_table 3) b wall-row y) c.in-Ok-walled.m c.in-Ok-walled.is in inserted (row_bytes k (rule_at symbol_table 0) a) c.in-Ok.n args.pen.at args.out.now _ l args.pen.start pre.0.begun _ the-exchange.ensures ((row_bytes k (rule_at symbol_table 3) b) ++ shut_bytes) _ _ _ (drawn_then (row_bytes k (rule_at symbol_table 3) b) c.in-Ok-walled.m (args.pen.at + c.in-Ok.n) _ _ m shut_bytes _ _ _ (shut_at args.pen _ (c.in-Ok.n + c.in-Ok-walled.m) 5 c.at_block.ensures (length (row_bytes k (rule_at symbol_table 0) a) + (length (row_bytes k (rule_at symbol_table 3) b) + 3)) 4 ((args.pen.at + c.in-Ok.n) + c.in-Ok-walled.m) _ _ _ (omega (arith, l.size, m.size)) (omega arith) c.shut.ensures.1)))

@@ -29,38 +29,38 @@ pub at_block-requires : goal.at_block-requires
 at_block-requires c =
     let args = c.args in
     let pre = c.requires in
-    omega (arith, room-left args.out.now args.pen.at pre.within _ _ c.put_keys.ensures.0 c.in-Bytes.n c.in-Bytes.is)
+    omega (arith, room-left args.out.now args.pen.at pre.within _ _ c.put_keys.ensures.0 c.in-Ok.n c.in-Ok.is)
 
 pub shut-requires : goal.shut-requires
 shut-requires c =
     let args = c.args in
     let pre = c.requires in
-    safe-there args.pen _ c.in-Bytes.n 12 c.at_block.ensures _ pre.begun (omega (arith, room-left args.out.now args.pen.at pre.within _ _ c.put_keys.ensures.0 c.in-Bytes.n c.in-Bytes.is, kept-long args.out.now args.pen.at pre.within _ _ c.put_keys.ensures.0))
+    safe-there args.pen _ c.in-Ok.n 12 c.at_block.ensures _ pre.begun (omega (arith, room-left args.out.now args.pen.at pre.within _ _ c.put_keys.ensures.0 c.in-Ok.n c.in-Ok.is, kept-long args.out.now args.pen.at pre.within _ _ c.put_keys.ensures.0))
 
 pub enum_told-1 : goal.enum_told-1
 enum_told-1 c = search rules
 
-pub shape_of-out-in-Bytes : goal.shape_of-out-in-Bytes
-shape_of-out-in-Bytes c = search rules
+pub shape_of-out-in-Ok : goal.shape_of-out-in-Ok
+shape_of-out-in-Ok c = search rules
 
-pub returns-in-Bytes : goal.returns-in-Bytes
-returns-in-Bytes c =
+pub returns-in-Ok : goal.returns-in-Ok
+returns-in-Ok c =
     let args = c.args in
     let pre = c.requires in (
       kept_then _ _ _ _ (kept-long args.out.now args.pen.at pre.within _ _ c.put_keys.ensures.0) c.shut.ensures.0,
       λ k t z.
-          let l = lays args.out.now args.pen.at pre.within _ _ (line_bytes (keys_text t 8)) (c.put_keys.ensures.1 k t z) c.in-Bytes.n c.in-Bytes.is in
-          drawn_then (line_bytes (keys_text t 8)) c.in-Bytes.n args.pen.at args.out.now _ l shut_bytes _ _ _
-          (shut_at args.pen _ c.in-Bytes.n 12 c.at_block.ensures (length (line_bytes (keys_text t 8) ++ shut_bytes)) 8 _ _ _ _ (length-append (line_bytes (keys_text t 8)) shut_bytes ∙ omega (arith, l.size)) refl c.shut.ensures.1),
+          let l = lays args.out.now args.pen.at pre.within _ _ (line_bytes (keys_text t 8)) (c.put_keys.ensures.1 k t z) c.in-Ok.n c.in-Ok.is in
+          drawn_then (line_bytes (keys_text t 8)) c.in-Ok.n args.pen.at args.out.now _ l shut_bytes _ _ _
+          (shut_at args.pen _ c.in-Ok.n 12 c.at_block.ensures (length (line_bytes (keys_text t 8) ++ shut_bytes)) 8 _ _ _ _ (length-append (line_bytes (keys_text t 8)) shut_bytes ∙ omega (arith, l.size)) refl c.shut.ensures.1),
     )
 
-pub shape_of-out-in-Full : goal.shape_of-out-in-Full
-shape_of-out-in-Full c = search rules
+pub shape_of-out-in-Err : goal.shape_of-out-in-Err
+shape_of-out-in-Err c = search rules
 
-pub returns-in-Full : goal.returns-in-Full
-returns-in-Full c =
+pub returns-in-Err : goal.returns-in-Err
+returns-in-Err c =
     let args = c.args in
     let pre = c.requires in (
       kept_full args.out.now args.pen.at pre.within _ _ c.put_keys.ensures.0,
-      λ k t z. shut_none (line_bytes (keys_text t 8)) args.pen.at _ args.out.now _ (no_room args.out.now args.pen.at pre.within _ _ (line_bytes (keys_text t 8)) (c.put_keys.ensures.1 k t z) c.in-Full.is),
+      λ k t z. shut_none (line_bytes (keys_text t 8)) args.pen.at _ args.out.now _ (no_room args.out.now args.pen.at pre.within _ _ (line_bytes (keys_text t 8)) (c.put_keys.ensures.1 k t z) c.in-Err.is),
     )

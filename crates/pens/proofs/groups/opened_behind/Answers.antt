@@ -31,7 +31,7 @@ pub noted_row-requires : goal.noted_row-requires
 noted_row-requires c = search rules
 
 pub returns-then-amid : goal.returns-then-amid
-returns-then-amid c = behind-text c.args.amid c.args.form c.args.found c.in-Row.row _ _ _ (sym c.is_close.ensures ∙ c.if-is_close.false) c.in-Row.is c.if-amid.true c.rest_here.ensures c.note_of.ensures c.noted_row.ensures
+returns-then-amid c = behind-text c.args.amid c.args.form c.args.found c.in-Some.row _ _ _ (sym c.is_close.ensures ∙ c.if-is_close.false) c.in-Some.is c.if-amid.true c.rest_here.ensures c.note_of.ensures c.noted_row.ensures
 
 pub returns : goal.returns
-returns c = behind-own c.args.amid c.args.form c.args.found c.in-Row.row (sym c.is_close.ensures ∙ c.if-is_close.false) c.in-Row.is c.if-amid.false
+returns c = behind-own c.args.amid c.args.form c.args.found c.in-Some.row (sym c.is_close.ensures ∙ c.if-is_close.false) c.in-Some.is c.if-amid.false

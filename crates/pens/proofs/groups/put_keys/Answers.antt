@@ -40,7 +40,7 @@ returns-in_default c = (
 )
 
 pub overflow_add-n : goal.overflow_add-n
-overflow_add-n c = omega (arith, c.loop-j.invariant.long, room-left c.loop-j.out c.loop-j.n (omega (arith, c.loop-j.invariant.within, c.loop-j.invariant.long)) _ _ c.put_lines.ensures.0 c.in-Bytes.m c.in-Bytes.is)
+overflow_add-n c = omega (arith, c.loop-j.invariant.long, room-left c.loop-j.out c.loop-j.n (omega (arith, c.loop-j.invariant.within, c.loop-j.invariant.long)) _ _ c.put_lines.ensures.0 c.in-Ok.m c.in-Ok.is)
 
 pub overflow_add-j : goal.overflow_add-j
 overflow_add-j c = omega (arith, c.loop-j-test.true)
@@ -49,7 +49,7 @@ pub loop-j-smaller : goal.loop-j-smaller
 loop-j-smaller c = omega (arith, c.loop-j-test.true)
 
 pub loop-j-preserved : goal.loop-j-preserved
-loop-j-preserved c = keys-more _ _ _ _ _ _ _ _ _ c.loop-j.invariant c.loop-j-test.true _ _ c.put_lines.ensures.1 c.in-Bytes.m c.in-Bytes.is c.put_lines.ensures.0
+loop-j-preserved c = keys-more _ _ _ _ _ _ _ _ _ c.loop-j.invariant c.loop-j-test.true _ _ c.put_lines.ensures.1 c.in-Ok.m c.in-Ok.is c.put_lines.ensures.0
 
 pub shape_of-out : goal.shape_of-out
 shape_of-out c = c.loop-j.invariant.long

@@ -35,4 +35,4 @@ pub shape_of-out : goal.shape_of-out
 shape_of-out c = search rules
 
 pub returns : goal.returns
-returns c = (c.put_own.ensures.0, line-own _ _ _ c.args.form _ _ _ _ _ (sym c.is_close.ensures ∙ c.if-is_close.false) c.in-Row.is (rw c.rest_here.ensures at c.put_own.ensures.1))
+returns c = (c.put_own.ensures.0, line-own _ _ _ c.args.form _ _ _ _ _ (sym c.is_close.ensures ∙ c.if-is_close.false) c.in-Some.is (rw c.rest_here.ensures at c.put_own.ensures.1))

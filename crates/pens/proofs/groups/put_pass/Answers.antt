@@ -22,11 +22,11 @@ look-requires c = search rules
 pub enum_told-1 : goal.enum_told-1
 enum_told-1 c = search rules
 
-pub loop-going-smaller-in-End : goal.loop-going-smaller-in-End
-loop-going-smaller-in-End c = fewer-none (c.args.start + length c.args.body.now) c.loop-going.at c.loop-going.going c.loop-going-test.true
+pub loop-going-smaller-in-None : goal.loop-going-smaller-in-None
+loop-going-smaller-in-None c = fewer-none (c.args.start + length c.args.body.now) c.loop-going.at c.loop-going.going c.loop-going-test.true
 
-pub loop-going-preserved-in-End : goal.loop-going-preserved-in-End
-loop-going-preserved-in-End c = pass-ends _ _ _ _ _ _ _ _ _ _ _ c.loop-going.invariant c.loop-going-test.true (sym c.look.ensures ∙ c.in-End.is)
+pub loop-going-preserved-in-None : goal.loop-going-preserved-in-None
+loop-going-preserved-in-None c = pass-ends _ _ _ _ _ _ _ _ _ _ _ c.loop-going.invariant c.loop-going-test.true (sym c.look.ensures ∙ c.in-None.is)
 
 pub enum_known-seen : goal.enum_known-seen
 enum_known-seen c = search rules
@@ -58,11 +58,11 @@ shape_of-out-in_default c = kept-long c.loop-going.out c.loop-going.n (omega (ar
 pub returns-in_default : goal.returns-in_default
 returns-in_default c = (
   within-full _ _ (kept-long c.loop-going.out c.loop-going.n (omega (arith, c.loop-going.invariant.within, c.loop-going.invariant.long)) _ _ c.put_line.ensures.0 ∙ c.loop-going.invariant.long),
-  pass-full _ _ _ _ _ _ _ _ _ _ _ c.loop-going.invariant c.loop-going-test.true c.in-Line.seen (sym c.look.ensures ∙ c.in-Line.is) _ c.row_here-found.ensures _ _ c.put_line.ensures.1 c.in_default.is _,
+  pass-full _ _ _ _ _ _ _ _ _ _ _ c.loop-going.invariant c.loop-going-test.true c.in-Some.seen (sym c.look.ensures ∙ c.in-Some.is) _ c.row_here-found.ensures _ _ c.put_line.ensures.1 c.in_default.is _,
 )
 
 pub overflow_add-n : goal.overflow_add-n
-overflow_add-n c = omega (arith, c.loop-going.invariant.small, c.loop-going.invariant.long, room-left c.loop-going.out c.loop-going.n (omega (arith, c.loop-going.invariant.within, c.loop-going.invariant.long)) _ _ c.put_line.ensures.0 c.in-Bytes.m c.in-Bytes.is)
+overflow_add-n c = omega (arith, c.loop-going.invariant.small, c.loop-going.invariant.long, room-left c.loop-going.out c.loop-going.n (omega (arith, c.loop-going.invariant.within, c.loop-going.invariant.long)) _ _ c.put_line.ensures.0 c.in-Ok.m c.in-Ok.is)
 
 pub is_over-going-requires : goal.is_over-going-requires
 is_over-going-requires c = search rules
@@ -71,10 +71,10 @@ pub opened_behind-amid-requires : goal.opened_behind-amid-requires
 opened_behind-amid-requires c = search rules
 
 pub loop-going-smaller : goal.loop-going-smaller
-loop-going-smaller c = fewer c.args.body.now c.args.start c.loop-going.at c.loop-going.going (not c.is_over-going.result) c.in-Line.seen c.loop-going-test.true (sym c.look.ensures ∙ c.in-Line.is)
+loop-going-smaller c = fewer c.args.body.now c.args.start c.loop-going.at c.loop-going.going (not c.is_over-going.result) c.in-Some.seen c.loop-going-test.true (sym c.look.ensures ∙ c.in-Some.is)
 
 pub loop-going-preserved : goal.loop-going-preserved
-loop-going-preserved c = pass_on _ _ _ _ _ _ _ _ _ _ _ c.loop-going.invariant c.loop-going-test.true c.in-Line.seen (sym c.look.ensures ∙ c.in-Line.is) _ c.row_here-found.ensures _ _ c.put_line.ensures.1 _ _ _ c.in-Bytes.is c.opened_behind-amid.ensures c.is_over-going.ensures c.put_line.ensures.0
+loop-going-preserved c = pass_on _ _ _ _ _ _ _ _ _ _ _ c.loop-going.invariant c.loop-going-test.true c.in-Some.seen (sym c.look.ensures ∙ c.in-Some.is) _ c.row_here-found.ensures _ _ c.put_line.ensures.1 _ _ _ c.in-Ok.is c.opened_behind-amid.ensures c.is_over-going.ensures c.put_line.ensures.0
 
 pub shape_of-out : goal.shape_of-out
 shape_of-out c = c.loop-going.invariant.long

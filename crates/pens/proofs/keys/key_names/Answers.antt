@@ -25,27 +25,27 @@ pub at_block-requires : goal.at_block-requires
 at_block-requires c =
     let args = c.args in
     let pre = c.requires in
-    omega (arith, room-left args.out.now args.pen.at pre.within _ _ c.put_named.ensures.0 c.in-Bytes.n c.in-Bytes.is)
+    omega (arith, room-left args.out.now args.pen.at pre.within _ _ c.put_named.ensures.0 c.in-Ok.n c.in-Ok.is)
 
 pub enum_told-1 : goal.enum_told-1
 enum_told-1 c = search rules
 
-pub shape_of-out-in-Bytes : goal.shape_of-out-in-Bytes
-shape_of-out-in-Bytes c = search rules
+pub shape_of-out-in-Ok : goal.shape_of-out-in-Ok
+shape_of-out-in-Ok c = search rules
 
-pub returns-in-Bytes : goal.returns-in-Bytes
-returns-in-Bytes c =
+pub returns-in-Ok : goal.returns-in-Ok
+returns-in-Ok c =
     let args = c.args in
     let pre = c.requires in
     let the-put-named = c.put_named in
-    (kept-go args.out.now args.pen.at pre.within _ _ the-put-named.ensures.0 c.in-Bytes.n (moved args.pen c.in-Bytes.n 3 0) _ c.in-Bytes.is c.at_block.ensures (omega (arith, pre.begun)) refl, λ v g. drawn-go _ _ _ _ _ (lays args.out.now args.pen.at pre.within _ _ _ (the-put-named.ensures.1 v g) c.in-Bytes.n c.in-Bytes.is) (λ (m : ℕ). moved args.pen (m) 3 0) _ c.at_block.ensures)
+    (kept-go args.out.now args.pen.at pre.within _ _ the-put-named.ensures.0 c.in-Ok.n (moved args.pen c.in-Ok.n 3 0) _ c.in-Ok.is c.at_block.ensures (omega (arith, pre.begun)) refl, λ v g. drawn-go _ _ _ _ _ (lays args.out.now args.pen.at pre.within _ _ _ (the-put-named.ensures.1 v g) c.in-Ok.n c.in-Ok.is) (λ (m : ℕ). moved args.pen (m) 3 0) _ c.at_block.ensures)
 
-pub shape_of-out-in-Full : goal.shape_of-out-in-Full
-shape_of-out-in-Full c = search rules
+pub shape_of-out-in-Err : goal.shape_of-out-in-Err
+shape_of-out-in-Err c = search rules
 
-pub returns-in-Full : goal.returns-in-Full
-returns-in-Full c =
+pub returns-in-Err : goal.returns-in-Err
+returns-in-Err c =
     let args = c.args in
     let pre = c.requires in
     let the-put-named = c.put_named in
-    (kept_full args.out.now args.pen.at pre.within _ _ the-put-named.ensures.0, λ v g. drawn-none _ _ _ _ _ (no_room args.out.now args.pen.at pre.within _ _ _ (the-put-named.ensures.1 v g) c.in-Full.is))
+    (kept_full args.out.now args.pen.at pre.within _ _ the-put-named.ensures.0, λ v g. drawn-none _ _ _ _ _ (no_room args.out.now args.pen.at pre.within _ _ _ (the-put-named.ensures.1 v g) c.in-Err.is))

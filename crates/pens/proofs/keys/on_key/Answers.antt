@@ -36,10 +36,10 @@ row_line-requires c =
     let the-table-of = c.table_of-table in
     (pre.0, pre.1, plain-table args.first args.pen (is_brace args.rest) _ the-table-of.ensures)
 
-pub returns-in-Absent : goal.returns-in-Absent
-returns-in-Absent c =
+pub returns-in-None : goal.returns-in-None
+returns-in-None c =
     let pre = c.requires in
-    (kept-still _ _ pre.0, pre.1, record { name = λ h. absurd (c.if-pen-eq-BLOCK_LAYER_NAMES.false h); row = λ _ k j q v f g. no_row _ _ _ _ j q _ c.part.ensures c.table_of-table.ensures c.in-Absent.is c.row_of.ensures f })
+    (kept-still _ _ pre.0, pre.1, record { name = λ h. absurd (c.if-pen-eq-BLOCK_LAYER_NAMES.false h); row = λ _ k j q v f g. no_row _ _ _ _ j q _ c.part.ensures c.table_of-table.ensures c.in-None.is c.row_of.ensures f })
 
 pub shape_of-notes : goal.shape_of-notes
 shape_of-notes c = search rules
@@ -47,12 +47,12 @@ shape_of-notes c = search rules
 pub shape_of-out : goal.shape_of-out
 shape_of-out c = search rules
 
-pub returns-in-Row : goal.returns-in-Row
-returns-in-Row c =
+pub returns-in-Some : goal.returns-in-Some
+returns-in-Some c =
     let pre = c.requires in
     let the-if1 = c.if-pen-eq-BLOCK_LAYER_NAMES in
     let the-table-of = c.table_of-table in
     let the-part = c.part in
     let the-row-of = c.row_of in
     let the-row-line = c.row_line in
-    (the-row-line.ensures.0, the-row-line.ensures.1 ∙ pre.1, record { name = λ h. absurd (the-if1.false h); row = λ _ k j q v f g. on_row _ _ k q v _ _ _ _ _ _ _ _ _ _ j _ the-part.ensures the-table-of.ensures c.in-Row.is the-row-of.ensures f (λ i. the-row-line.ensures.2 k q v i g) })
+    (the-row-line.ensures.0, the-row-line.ensures.1 ∙ pre.1, record { name = λ h. absurd (the-if1.false h); row = λ _ k j q v f g. on_row _ _ k q v _ _ _ _ _ _ _ _ _ _ j _ the-part.ensures the-table-of.ensures c.in-Some.is the-row-of.ensures f (λ i. the-row-line.ensures.2 k q v i g) })

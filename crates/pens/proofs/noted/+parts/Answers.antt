@@ -9,8 +9,8 @@ use Rattle.pens.proofs.noted.+parts.Goals as goal
 pub put_part-returns : goal.put_part-returns
 put_part-returns t c =
     let args = c.args in
-    let a = c.in-Bytes.ensures in
-    let q = c.in-Bytes-end.ensures in
+    let a = c.in-Ok.ensures in
+    let q = c.in-Ok-end.ensures in
     (behind-within _ _ _ _ a.0 _ q.0, part-printed args.s.now args.base args.notes.now args.depth args.inner c.if-inner-eq-NO_TABLE.false _ _ _ a.1 _ _ q.1)
 
 pub put_rows-returns-then-rows_in-j : goal.put_rows-returns-then-rows_in-j
@@ -27,15 +27,15 @@ put_rows-returns-in_default t c =
 pub put_rows-returns-in_default-others : goal.put_rows-returns-in_default-others
 put_rows-returns-in_default-others t c =
     let args = c.args in
-    let a = c.in-Bytes.ensures in
+    let a = c.in-Ok.ensures in
     let q = c.in_default-others.ensures in
     (within-full _ _ (behind-long _ _ _ _ a.0 _ q.0), rows-others-full args.s.now args.base args.notes.now args.depth (args.depth - 1) args.table args.j (omega (arith, c.if-depth-eq0.false)) (omega (arith, c.rows_in.ensures, c.if-rows_in-j.false)) _ _ _ a.1 _ q.1)
 
 pub put_rows-returns : goal.put_rows-returns
 put_rows-returns t c =
     let args = c.args in
-    let a = c.in-Bytes.ensures in
-    let q = c.in-Bytes-others.ensures in
+    let a = c.in-Ok.ensures in
+    let q = c.in-Ok-others.ensures in
     (behind-within _ _ _ _ a.0 _ q.0, rows-printed args.s.now args.base args.notes.now args.depth (args.depth - 1) args.table args.j (omega (arith, c.if-depth-eq0.false)) (omega (arith, c.rows_in.ensures, c.if-rows_in-j.false)) _ _ _ a.1 _ _ q.1)
 
 pub put_slot-returns-in_default : goal.put_slot-returns-in_default
@@ -46,13 +46,13 @@ put_slot-returns-in_default t c =
 pub put_slot-returns-in_default-part : goal.put_slot-returns-in_default-part
 put_slot-returns-in_default-part t c =
     let args = c.args in
-    let w = within_mid args.out.now _ _ _ c.inner_table-inner.auto.out c.in-Bytes.ensures.0 in
+    let w = within_mid args.out.now _ _ _ c.inner_table-inner.auto.out c.in-Ok.ensures.0 in
     let q = c.in_default-part.ensures in
-    (within-full _ _ (behind-long _ _ _ _ w _ q.0), slot-part-full args.s.now args.base args.notes.now args.depth args.table args.j c.note_at-note.result c.inner_table-inner.result args.out.now _ _ _ (c.note_at-note.ensures ∙ ap (λ (i : ℕ). get_or args.notes.now (i + args.j) 0) c.notes_from.ensures) c.inner_table-inner.ensures c.put_noted-line.ensures.1 _ c.in-Bytes.is _ q.1)
+    (within-full _ _ (behind-long _ _ _ _ w _ q.0), slot-part-full args.s.now args.base args.notes.now args.depth args.table args.j c.note_at-note.result c.inner_table-inner.result args.out.now _ _ _ (c.note_at-note.ensures ∙ ap (λ (i : ℕ). get_or args.notes.now (i + args.j) 0) c.notes_from.ensures) c.inner_table-inner.ensures c.put_noted-line.ensures.1 _ c.in-Ok.is _ q.1)
 
 pub put_slot-returns : goal.put_slot-returns
 put_slot-returns t c =
     let args = c.args in
-    let w = within_mid args.out.now _ _ _ c.inner_table-inner.auto.out c.in-Bytes.ensures.0 in
-    let q = c.in-Bytes-part.ensures in
-    (behind-within _ _ _ _ w _ q.0, slot-printed args.s.now args.base args.notes.now args.depth args.table args.j c.note_at-note.result c.inner_table-inner.result args.out.now _ _ _ (c.note_at-note.ensures ∙ ap (λ (i : ℕ). get_or args.notes.now (i + args.j) 0) c.notes_from.ensures) c.inner_table-inner.ensures c.put_noted-line.ensures.1 _ c.in-Bytes.is _ _ q.1)
+    let w = within_mid args.out.now _ _ _ c.inner_table-inner.auto.out c.in-Ok.ensures.0 in
+    let q = c.in-Ok-part.ensures in
+    (behind-within _ _ _ _ w _ q.0, slot-printed args.s.now args.base args.notes.now args.depth args.table args.j c.note_at-note.result c.inner_table-inner.result args.out.now _ _ _ (c.note_at-note.ensures ∙ ap (λ (i : ℕ). get_or args.notes.now (i + args.j) 0) c.notes_from.ensures) c.inner_table-inner.ensures c.put_noted-line.ensures.1 _ c.in-Ok.is _ _ q.1)

@@ -33,10 +33,10 @@ pub shape_of-out-then-opens : goal.shape_of-out-then-opens
 shape_of-out-then-opens c = search rules
 
 pub returns-then-opens : goal.returns-then-opens
-returns-then-opens c = inner_open c.args.s.now c.args.table c.args.number c.args.note _ _ _ c.if-note-eq0.false c.row_at-found.ensures c.in-Row.row c.in-Row.is c.rest_of.result c.rest_of.ensures _ _ c.opens.ensures c.if-opens.true _ c.part_table.ensures
+returns-then-opens c = inner_open c.args.s.now c.args.table c.args.number c.args.note _ _ _ c.if-note-eq0.false c.row_at-found.ensures c.in-Some.row c.in-Some.is c.rest_of.result c.rest_of.ensures _ _ c.opens.ensures c.if-opens.true _ c.part_table.ensures
 
 pub shape_of-out : goal.shape_of-out
 shape_of-out c = search rules
 
 pub returns : goal.returns
-returns c = inner-shut c.args.s.now c.args.table c.args.number c.args.note _ _ _ c.if-note-eq0.false c.row_at-found.ensures c.in-Row.row c.in-Row.is c.rest_of.result c.rest_of.ensures _ _ c.opens.ensures c.if-opens.false
+returns c = inner-shut c.args.s.now c.args.table c.args.number c.args.note _ _ _ c.if-note-eq0.false c.row_at-found.ensures c.in-Some.row c.in-Some.is c.rest_of.result c.rest_of.ensures _ _ c.opens.ensures c.if-opens.false

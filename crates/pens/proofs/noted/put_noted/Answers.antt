@@ -31,4 +31,4 @@ pub shape_of-out : goal.shape_of-out
 shape_of-out c = search rules
 
 pub returns : goal.returns
-returns c = noted-line c.args.s.now c.args.table c.args.number c.args.note _ _ _ c.if-note-eq0.false c.row_at-found.ensures c.in-Row.row c.in-Row.is c.rest_of.result c.rest_of.ensures _ _ c.put_row.ensures.0 c.put_row.ensures.1
+returns c = noted-line c.args.s.now c.args.table c.args.number c.args.note _ _ _ c.if-note-eq0.false c.row_at-found.ensures c.in-Some.row c.in-Some.is c.rest_of.result c.rest_of.ensures _ _ c.put_row.ensures.0 c.put_row.ensures.1

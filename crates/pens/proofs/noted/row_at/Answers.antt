@@ -20,10 +20,10 @@ pub returns-in_default : goal.returns-in_default
 returns-in_default c = row-full _ _ _ _ (rw c.in_default.is at c.put_key-wrote.ensures)
 
 pub slice_bounds-row_of-end : goal.slice_bounds-row_of-end
-slice_bounds-row_of-end c = key-room _ _ _ _ _ (rw c.in-Bytes.is at c.put_key-wrote.ensures)
+slice_bounds-row_of-end c = key-room _ _ _ _ _ (rw c.in-Ok.is at c.put_key-wrote.ensures)
 
 pub slice_bounds-row_of-end-2 : goal.slice_bounds-row_of-end-2
-slice_bounds-row_of-end-2 c = sym (length-take-le _ _ (key-room _ _ _ _ _ (rw c.in-Bytes.is at c.put_key-wrote.ensures)))
+slice_bounds-row_of-end-2 c = sym (length-take-le _ _ (key-room _ _ _ _ _ (rw c.in-Ok.is at c.put_key-wrote.ensures)))
 
 pub row_of-requires : goal.row_of-requires
 row_of-requires c = search rules
@@ -32,4 +32,4 @@ pub shape_of-out : goal.shape_of-out
 shape_of-out c = search rules
 
 pub returns : goal.returns
-returns c = row-there _ _ _ _ _ (rw c.in-Bytes.is at c.put_key-wrote.ensures) _ c.row_of.ensures
+returns c = row-there _ _ _ _ _ (rw c.in-Ok.is at c.put_key-wrote.ensures) _ c.row_of.ensures

@@ -35,4 +35,4 @@ pub shape_of-out : goal.shape_of-out
 shape_of-out c = search rules
 
 pub returns : goal.returns
-returns c = ratio-anew c.args.c.now c.args.out.now _ c.args.at _ (read_ratio c.args.c.now) c.in-Is.z (sym c.in-Is.is ∙ c.ratio.ensures) c.scale.ensures
+returns c = ratio-anew c.args.c.now c.args.out.now _ c.args.at _ (read_ratio c.args.c.now) c.in-Ok.z (sym c.in-Ok.is ∙ c.ratio.ensures) c.scale.ensures

@@ -35,4 +35,4 @@ pub shape_of-out : goal.shape_of-out
 shape_of-out c = search rules
 
 pub returns : goal.returns
-returns c = sheet-anew c.args.c.now c.args.out.now _ c.args.at _ (find_sheet c.args.c.now sheets) c.in-Is.z (sym c.in-Is.is ∙ c.sheet.ensures) c.sheet-2.ensures
+returns c = sheet-anew c.args.c.now c.args.out.now _ c.args.at _ (find_sheet c.args.c.now sheets) c.in-Some.z (sym c.in-Some.is ∙ c.sheet.ensures) c.sheet-2.ensures

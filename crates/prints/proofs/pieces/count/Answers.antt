@@ -29,4 +29,4 @@ pub shape_of-out : goal.shape_of-out
 shape_of-out c = search rules
 
 pub returns : goal.returns
-returns c = count-anew c.args.c.now c.args.out.now _ c.args.at _ (show_count 20) (read_count 10 c.args.c.now) c.in-Is.n (sym c.in-Is.is ∙ c.serial.ensures) c.number.ensures
+returns c = count-anew c.args.c.now c.args.out.now _ c.args.at _ (show_count 20) (read_count 10 c.args.c.now) c.in-Some.n (sym c.in-Some.is ∙ c.serial.ensures) c.number.ensures

@@ -33,5 +33,5 @@ shape_of-out c = search rules
 
 pub returns : goal.returns
 returns c =
-    let f : SFits w64 c.in-Is.d.value = search rules in
-    reading-anew c.args.c.now c.args.out.now _ c.args.at _ show_decimal (read_decimal c.args.c.now) c.in-Is.d (sym c.in-Is.is ∙ c.decimal.ensures) (rw (to_z-of_z f) at c.decimal-2.ensures)
+    let f : SFits w64 c.in-Some.d.value = search rules in
+    reading-anew c.args.c.now c.args.out.now _ c.args.at _ show_decimal (read_decimal c.args.c.now) c.in-Some.d (sym c.in-Some.is ∙ c.decimal.ensures) (rw (to_z-of_z f) at c.decimal-2.ensures)

@@ -14,7 +14,7 @@ pub returns-in_default : goal.returns-in_default
 returns-in_default c = none_left (show_count 20 c.args.v) c.args.out.now c.args.at c.in_default.is
 
 pub returns-then-out-start : goal.returns-then-out-start
-returns-then-out-start c = beyond (show_count 20 c.args.v) c.args.out.now c.args.at c.in-Bytes.start c.in-Bytes.is c.if-out-start.true
+returns-then-out-start c = beyond (show_count 20 c.args.v) c.args.out.now c.args.at c.in-Ok.start c.in-Ok.is c.if-out-start.true
 
 pub slice_bounds-put_count-count : goal.slice_bounds-put_count-count
 slice_bounds-put_count-count c = search rules
@@ -38,13 +38,13 @@ pub shape_of-out-in_default-put_count : goal.shape_of-out-in_default-put_count
 shape_of-out-in_default-put_count c = search rules
 
 pub returns-in_default-put_count : goal.returns-in_default-put_count
-returns-in_default-put_count c = placed-full (show_count 20 c.args.v) c.args.out.now _ c.args.at _ c.in-Bytes.start c.in-Bytes.is c.if-out-start.false c.put_count.ensures c.in_default-put_count.is
+returns-in_default-put_count c = placed-full (show_count 20 c.args.v) c.args.out.now _ c.args.at _ c.in-Ok.start c.in-Ok.is c.if-out-start.false c.put_count.ensures c.in_default-put_count.is
 
 pub overflow_add-result : goal.overflow_add-result
-overflow_add-result c = record { fits = omega (arith, placed-room (show_count 20 c.args.v) c.args.out.now _ c.args.at _ c.in-Bytes.start c.in-Bytes.is c.if-out-start.false c.put_count.ensures c.in-Bytes-put_count.long c.in-Bytes-put_count.is) }
+overflow_add-result c = record { fits = omega (arith, placed-room (show_count 20 c.args.v) c.args.out.now _ c.args.at _ c.in-Ok.start c.in-Ok.is c.if-out-start.false c.put_count.ensures c.in-Ok-put_count.long c.in-Ok-put_count.is) }
 
 pub shape_of-out : goal.shape_of-out
 shape_of-out c = search rules
 
 pub returns : goal.returns
-returns c = placed-bytes (show_count 20 c.args.v) c.args.out.now _ c.args.at _ c.in-Bytes.start c.in-Bytes.is c.if-out-start.false c.put_count.ensures c.in-Bytes-put_count.long c.in-Bytes-put_count.is
+returns c = placed-bytes (show_count 20 c.args.v) c.args.out.now _ c.args.at _ c.in-Ok.start c.in-Ok.is c.if-out-start.false c.put_count.ensures c.in-Ok-put_count.long c.in-Ok-put_count.is

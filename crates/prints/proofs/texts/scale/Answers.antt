@@ -14,7 +14,7 @@ pub returns-in_default : goal.returns-in_default
 returns-in_default c = none_left (show_ratio c.args.p c.args.q) c.args.out.now c.args.at c.in_default.is
 
 pub returns-then-out-start : goal.returns-then-out-start
-returns-then-out-start c = beyond (show_ratio c.args.p c.args.q) c.args.out.now c.args.at c.in-Bytes.start c.in-Bytes.is c.if-out-start.true
+returns-then-out-start c = beyond (show_ratio c.args.p c.args.q) c.args.out.now c.args.at c.in-Ok.start c.in-Ok.is c.if-out-start.true
 
 pub slice_bounds-put_ratio-count : goal.slice_bounds-put_ratio-count
 slice_bounds-put_ratio-count c = search rules
@@ -38,13 +38,13 @@ pub shape_of-out-in_default-put_ratio : goal.shape_of-out-in_default-put_ratio
 shape_of-out-in_default-put_ratio c = search rules
 
 pub returns-in_default-put_ratio : goal.returns-in_default-put_ratio
-returns-in_default-put_ratio c = placed-full (show_ratio c.args.p c.args.q) c.args.out.now _ c.args.at _ c.in-Bytes.start c.in-Bytes.is c.if-out-start.false c.put_ratio.ensures c.in_default-put_ratio.is
+returns-in_default-put_ratio c = placed-full (show_ratio c.args.p c.args.q) c.args.out.now _ c.args.at _ c.in-Ok.start c.in-Ok.is c.if-out-start.false c.put_ratio.ensures c.in_default-put_ratio.is
 
 pub overflow_add-result : goal.overflow_add-result
-overflow_add-result c = record { fits = omega (arith, placed-room (show_ratio c.args.p c.args.q) c.args.out.now _ c.args.at _ c.in-Bytes.start c.in-Bytes.is c.if-out-start.false c.put_ratio.ensures c.in-Bytes-put_ratio.long c.in-Bytes-put_ratio.is) }
+overflow_add-result c = record { fits = omega (arith, placed-room (show_ratio c.args.p c.args.q) c.args.out.now _ c.args.at _ c.in-Ok.start c.in-Ok.is c.if-out-start.false c.put_ratio.ensures c.in-Ok-put_ratio.long c.in-Ok-put_ratio.is) }
 
 pub shape_of-out : goal.shape_of-out
 shape_of-out c = search rules
 
 pub returns : goal.returns
-returns c = placed-bytes (show_ratio c.args.p c.args.q) c.args.out.now _ c.args.at _ c.in-Bytes.start c.in-Bytes.is c.if-out-start.false c.put_ratio.ensures c.in-Bytes-put_ratio.long c.in-Bytes-put_ratio.is
+returns c = placed-bytes (show_ratio c.args.p c.args.q) c.args.out.now _ c.args.at _ c.in-Ok.start c.in-Ok.is c.if-out-start.false c.put_ratio.ensures c.in-Ok-put_ratio.long c.in-Ok-put_ratio.is

@@ -14,7 +14,7 @@ pub returns-in_default : goal.returns-in_default
 returns-in_default c = none_left (show_sheet c.args.n c.args.a) c.args.out.now c.args.at c.in_default.is
 
 pub returns-then-out-start : goal.returns-then-out-start
-returns-then-out-start c = beyond (show_sheet c.args.n c.args.a) c.args.out.now c.args.at c.in-Bytes.start c.in-Bytes.is c.if-out-start.true
+returns-then-out-start c = beyond (show_sheet c.args.n c.args.a) c.args.out.now c.args.at c.in-Ok.start c.in-Ok.is c.if-out-start.true
 
 pub slice_bounds-put_sheet-count : goal.slice_bounds-put_sheet-count
 slice_bounds-put_sheet-count c = search rules
@@ -38,13 +38,13 @@ pub shape_of-out-in_default-put_sheet : goal.shape_of-out-in_default-put_sheet
 shape_of-out-in_default-put_sheet c = search rules
 
 pub returns-in_default-put_sheet : goal.returns-in_default-put_sheet
-returns-in_default-put_sheet c = placed-full (show_sheet c.args.n c.args.a) c.args.out.now _ c.args.at _ c.in-Bytes.start c.in-Bytes.is c.if-out-start.false c.put_sheet.ensures c.in_default-put_sheet.is
+returns-in_default-put_sheet c = placed-full (show_sheet c.args.n c.args.a) c.args.out.now _ c.args.at _ c.in-Ok.start c.in-Ok.is c.if-out-start.false c.put_sheet.ensures c.in_default-put_sheet.is
 
 pub overflow_add-result : goal.overflow_add-result
-overflow_add-result c = record { fits = omega (arith, placed-room (show_sheet c.args.n c.args.a) c.args.out.now _ c.args.at _ c.in-Bytes.start c.in-Bytes.is c.if-out-start.false c.put_sheet.ensures c.in-Bytes-put_sheet.long c.in-Bytes-put_sheet.is) }
+overflow_add-result c = record { fits = omega (arith, placed-room (show_sheet c.args.n c.args.a) c.args.out.now _ c.args.at _ c.in-Ok.start c.in-Ok.is c.if-out-start.false c.put_sheet.ensures c.in-Ok-put_sheet.long c.in-Ok-put_sheet.is) }
 
 pub shape_of-out : goal.shape_of-out
 shape_of-out c = search rules
 
 pub returns : goal.returns
-returns c = placed-bytes (show_sheet c.args.n c.args.a) c.args.out.now _ c.args.at _ c.in-Bytes.start c.in-Bytes.is c.if-out-start.false c.put_sheet.ensures c.in-Bytes-put_sheet.long c.in-Bytes-put_sheet.is
+returns c = placed-bytes (show_sheet c.args.n c.args.a) c.args.out.now _ c.args.at _ c.in-Ok.start c.in-Ok.is c.if-out-start.false c.put_sheet.ensures c.in-Ok-put_sheet.long c.in-Ok-put_sheet.is

@@ -13,7 +13,7 @@ pub returns-in_default : goal.returns-in_default
 returns-in_default c = none_left c.args.c.now c.args.out.now c.args.at c.in_default.is
 
 pub returns-then-out-start : goal.returns-then-out-start
-returns-then-out-start c = beyond c.args.c.now c.args.out.now c.args.at c.in-Bytes.start c.in-Bytes.is c.if-out-start.true
+returns-then-out-start c = beyond c.args.c.now c.args.out.now c.args.at c.in-Ok.start c.in-Ok.is c.if-out-start.true
 
 pub slice_bounds-put-count : goal.slice_bounds-put-count
 slice_bounds-put-count c = search rules
@@ -37,13 +37,13 @@ pub shape_of-out-in_default-put : goal.shape_of-out-in_default-put
 shape_of-out-in_default-put c = search rules
 
 pub returns-in_default-put : goal.returns-in_default-put
-returns-in_default-put c = placed-full c.args.c.now c.args.out.now _ c.args.at _ c.in-Bytes.start c.in-Bytes.is c.if-out-start.false c.put.ensures c.in_default-put.is
+returns-in_default-put c = placed-full c.args.c.now c.args.out.now _ c.args.at _ c.in-Ok.start c.in-Ok.is c.if-out-start.false c.put.ensures c.in_default-put.is
 
 pub overflow_add-result : goal.overflow_add-result
-overflow_add-result c = record { fits = omega (arith, placed-room c.args.c.now c.args.out.now _ c.args.at _ c.in-Bytes.start c.in-Bytes.is c.if-out-start.false c.put.ensures c.in-Bytes-put.long c.in-Bytes-put.is) }
+overflow_add-result c = record { fits = omega (arith, placed-room c.args.c.now c.args.out.now _ c.args.at _ c.in-Ok.start c.in-Ok.is c.if-out-start.false c.put.ensures c.in-Ok-put.long c.in-Ok-put.is) }
 
 pub shape_of-out : goal.shape_of-out
 shape_of-out c = search rules
 
 pub returns : goal.returns
-returns c = placed-bytes c.args.c.now c.args.out.now _ c.args.at _ c.in-Bytes.start c.in-Bytes.is c.if-out-start.false c.put.ensures c.in-Bytes-put.long c.in-Bytes-put.is
+returns c = placed-bytes c.args.c.now c.args.out.now _ c.args.at _ c.in-Ok.start c.in-Ok.is c.if-out-start.false c.put.ensures c.in-Ok-put.long c.in-Ok-put.is

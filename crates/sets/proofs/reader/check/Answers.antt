@@ -22,8 +22,8 @@ slice_bounds-read_set-end c = search rules
 pub read_set-requires : goal.read_set-requires
 read_set-requires c = search rules
 
-pub returns-in-Not : goal.returns-in-Not
-returns-in-Not c = answers-none c.args.class c.args.wire (c.args.records * width) c.args.s.now (sym c.in-Not.is ∙ c.class_of.ensures)
+pub returns-in-None : goal.returns-in-None
+returns-in-None c = answers-none c.args.class c.args.wire (c.args.records * width) c.args.s.now (sym c.in-None.is ∙ c.class_of.ensures)
 
-pub returns-in-Is : goal.returns-in-Is
-returns-in-Is c = counted-answers c.args.class c.args.wire c.args.records c.args.s.now c.in-Is.c (sym c.in-Is.is ∙ c.class_of.ensures) c.read_set.result (replicate 1 (pos 0)) c.read_set.new.t c.read_set.ensures
+pub returns-in-Some : goal.returns-in-Some
+returns-in-Some c = counted-answers c.args.class c.args.wire c.args.records c.args.s.now c.in-Some.c (sym c.in-Some.is ∙ c.class_of.ensures) c.read_set.result (replicate 1 (pos 0)) c.read_set.new.t c.read_set.ensures

@@ -24,26 +24,26 @@ read_set-r-requires c = (all-zeros c.clear.new.t (length c.args.t.now) c.clear.e
 pub enum_known-r : goal.enum_known-r
 enum_known-r c = search rules
 
-pub enum_known-r-in-Refused-1 : goal.enum_known-r-in-Refused-1
-enum_known-r-in-Refused-1 c = search rules
+pub enum_known-r-in-Err-1 : goal.enum_known-r-in-Err-1
+enum_known-r-in-Err-1 c = search rules
 
-pub clear-requires-in-Refused : goal.clear-requires-in-Refused
-clear-requires-in-Refused c = search rules
+pub clear-requires-in-Err : goal.clear-requires-in-Err
+clear-requires-in-Err c = search rules
 
-pub shape_of-t-in-Not : goal.shape_of-t-in-Not
-shape_of-t-in-Not c = search rules
+pub shape_of-t-in-None : goal.shape_of-t-in-None
+shape_of-t-in-None c = search rules
 
-pub returns-in-Not : goal.returns-in-Not
-returns-in-Not c = reads_none c.args.class c.args.wire (length c.args.t.now) c.args.s.now c.clear.new.t (sym c.in-Not.is ∙ c.class_of.ensures) c.clear.ensures
+pub returns-in-None : goal.returns-in-None
+returns-in-None c = reads_none c.args.class c.args.wire (length c.args.t.now) c.args.s.now c.clear.new.t (sym c.in-None.is ∙ c.class_of.ensures) c.clear.ensures
 
-pub shape_of-t-in-Accepted : goal.shape_of-t-in-Accepted
-shape_of-t-in-Accepted c = search rules
+pub shape_of-t-in-Ok : goal.shape_of-t-in-Ok
+shape_of-t-in-Ok c = search rules
 
-pub returns-in-Accepted : goal.returns-in-Accepted
-returns-in-Accepted c = reads-accepted c.args.class c.args.wire (length c.args.t.now) c.args.s.now c.in-Is.c (sym c.in-Is.is ∙ c.class_of.ensures) c.in-Accepted.n c.clear.new.t c.read_set-r.new.t c.clear.auto.t (subst (SetOut c.in-Is.c c.args.s.now (length c.args.t.now / 32) c.clear.new.t c.read_set-r.new.t) c.in-Accepted.is c.read_set-r.ensures)
+pub returns-in-Ok : goal.returns-in-Ok
+returns-in-Ok c = reads-accepted c.args.class c.args.wire (length c.args.t.now) c.args.s.now c.in-Some.c (sym c.in-Some.is ∙ c.class_of.ensures) c.in-Ok.n c.clear.new.t c.read_set-r.new.t c.clear.auto.t (subst (SetOut c.in-Some.c c.args.s.now (length c.args.t.now / 32) c.clear.new.t c.read_set-r.new.t) c.in-Ok.is c.read_set-r.ensures)
 
-pub shape_of-t-in-Refused : goal.shape_of-t-in-Refused
-shape_of-t-in-Refused c = search rules
+pub shape_of-t-in-Err : goal.shape_of-t-in-Err
+shape_of-t-in-Err c = search rules
 
-pub returns-in-Refused : goal.returns-in-Refused
-returns-in-Refused c = reads-refused c.args.class c.args.wire (length c.args.t.now) c.args.s.now c.in-Is.c (sym c.in-Is.is ∙ c.class_of.ensures) c.in-Refused.f c.clear.new.t c.read_set-r.new.t c.clear-in-Refused.new.t c.clear.auto.t c.read_set-r.auto.t (subst (SetOut c.in-Is.c c.args.s.now (length c.args.t.now / 32) c.clear.new.t c.read_set-r.new.t) c.in-Refused.is c.read_set-r.ensures) c.clear-in-Refused.ensures
+pub returns-in-Err : goal.returns-in-Err
+returns-in-Err c = reads-refused c.args.class c.args.wire (length c.args.t.now) c.args.s.now c.in-Some.c (sym c.in-Some.is ∙ c.class_of.ensures) c.in-Err.f c.clear.new.t c.read_set-r.new.t c.clear-in-Err.new.t c.clear.auto.t c.read_set-r.auto.t (subst (SetOut c.in-Some.c c.args.s.now (length c.args.t.now / 32) c.clear.new.t c.read_set-r.new.t) c.in-Err.is c.read_set-r.ensures) c.clear-in-Err.ensures

@@ -78,14 +78,14 @@ read_volume-r-requires c = volume_ready c.args.class c.args.s.now c.args.limit (
 pub enum_known-r : goal.enum_known-r
 enum_known-r c = search rules
 
-pub enum_known-r-in-Stop-1 : goal.enum_known-r-in-Stop-1
-enum_known-r-in-Stop-1 c = search rules
+pub enum_known-r-in-Err-1 : goal.enum_known-r-in-Err-1
+enum_known-r-in-Err-1 c = search rules
 
-pub shape_of-t-in-Stop : goal.shape_of-t-in-Stop
-shape_of-t-in-Stop c = c.read_volume-r.auto.t ∙ c.loop-i.invariant.long
+pub shape_of-t-in-Err : goal.shape_of-t-in-Err
+shape_of-t-in-Err c = c.read_volume-r.auto.t ∙ c.loop-i.invariant.long
 
-pub returns-in-Stop : goal.returns-in-Stop
-returns-in-Stop c = stops c.args.class c.args.s.now c.args.limit (length c.args.t.now) c.volumes-l.result c.loop-i.i (volume_desk c.loop-i.here c.loop-i.tally c.loop-i.symbols c.loop-i.layers c.loop-i.serials c.loop-i.used_all) c.loop-i.t c.loop-i.invariant c.loop-i-test.true c.part-body.result.now c.part-body.ensures c.name_behind-following.result.now c.name_behind-following.ensures _ _ c.read_volume-r.result c.read_volume-r.ensures c.in-Stop.f c.in-Stop.is
+pub returns-in-Err : goal.returns-in-Err
+returns-in-Err c = stops c.args.class c.args.s.now c.args.limit (length c.args.t.now) c.volumes-l.result c.loop-i.i (volume_desk c.loop-i.here c.loop-i.tally c.loop-i.symbols c.loop-i.layers c.loop-i.serials c.loop-i.used_all) c.loop-i.t c.loop-i.invariant c.loop-i-test.true c.part-body.result.now c.part-body.ensures c.name_behind-following.result.now c.name_behind-following.ensures _ _ c.read_volume-r.result c.read_volume-r.ensures c.in-Err.f c.in-Err.is
 
 pub overflow_add-i : goal.overflow_add-i
 overflow_add-i c = omega (arith, count-few c.args.class c.args.s.now c.args.limit (length c.args.t.now) c.volumes-l.result c.loop-i.i (volume_desk c.loop-i.here c.loop-i.tally c.loop-i.symbols c.loop-i.layers c.loop-i.serials c.loop-i.used_all) c.loop-i.t c.loop-i.invariant, c.loop-i-test.true)
@@ -94,7 +94,7 @@ pub loop-i-smaller : goal.loop-i-smaller
 loop-i-smaller c = omega (arith, c.loop-i-test.true)
 
 pub loop-i-preserved : goal.loop-i-preserved
-loop-i-preserved c = goes c.args.class c.args.s.now c.args.limit (length c.args.t.now) c.volumes-l.result c.loop-i.i (volume_desk c.loop-i.here c.loop-i.tally c.loop-i.symbols c.loop-i.layers c.loop-i.serials c.loop-i.used_all) c.loop-i.t c.loop-i.invariant c.loop-i-test.true c.part-body.result.now c.part-body.ensures c.name_behind-following.result.now c.name_behind-following.ensures _ _ c.read_volume-r.result c.read_volume-r.ensures c.in-Go.n c.in-Go.is c.read_volume-r.auto.t refl
+loop-i-preserved c = goes c.args.class c.args.s.now c.args.limit (length c.args.t.now) c.volumes-l.result c.loop-i.i (volume_desk c.loop-i.here c.loop-i.tally c.loop-i.symbols c.loop-i.layers c.loop-i.serials c.loop-i.used_all) c.loop-i.t c.loop-i.invariant c.loop-i-test.true c.part-body.result.now c.part-body.ensures c.name_behind-following.result.now c.name_behind-following.ensures _ _ c.read_volume-r.result c.read_volume-r.ensures c.in-Ok.n c.in-Ok.is c.read_volume-r.auto.t refl
 
 pub overflow_cast-result-2 : goal.overflow_cast-result-2
 overflow_cast-result-2 c = omega (arith, few-records c.args.class c.args.s.now c.args.limit (length c.args.t.now) c.volumes-l.result c.loop-i.i (volume_desk c.loop-i.here c.loop-i.tally c.loop-i.symbols c.loop-i.layers c.loop-i.serials c.loop-i.used_all) c.loop-i.t c.loop-i.invariant c.loop-i-test.false)

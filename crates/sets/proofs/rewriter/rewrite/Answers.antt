@@ -12,7 +12,7 @@ pub enum_told-1 : goal.enum_told-1
 enum_told-1 c = search rules
 
 pub write_set-requires : goal.write_set-requires
-write_set-requires c = subst (Judged c.args.s.now) c.in-Accepted.is c.judge.ensures
+write_set-requires c = subst (Judged c.args.s.now) c.in-Ok.is c.judge.ensures
 
 pub enum_known-f : goal.enum_known-f
 enum_known-f c = search rules
@@ -20,14 +20,14 @@ enum_known-f c = search rules
 pub clear-requires : goal.clear-requires
 clear-requires c = search rules
 
-pub shape_of-out-in-Accepted : goal.shape_of-out-in-Accepted
-shape_of-out-in-Accepted c = search rules
+pub shape_of-out-in-Ok : goal.shape_of-out-in-Ok
+shape_of-out-in-Ok c = search rules
 
-pub returns-in-Accepted : goal.returns-in-Accepted
-returns-in-Accepted c = search rules
+pub returns-in-Ok : goal.returns-in-Ok
+returns-in-Ok c = search rules
 
-pub shape_of-out-in-Refused : goal.shape_of-out-in-Refused
-shape_of-out-in-Refused c = search rules
+pub shape_of-out-in-Err : goal.shape_of-out-in-Err
+shape_of-out-in-Err c = search rules
 
-pub returns-in-Refused : goal.returns-in-Refused
-returns-in-Refused c = rewrites-refused (length c.args.out.now) c.args.s.now c.in-Refused.f c.clear.new.out (subst (Judged c.args.s.now) c.in-Refused.is c.judge.ensures) c.clear.ensures
+pub returns-in-Err : goal.returns-in-Err
+returns-in-Err c = rewrites-refused (length c.args.out.now) c.args.s.now c.in-Err.f c.clear.new.out (subst (Judged c.args.s.now) c.in-Err.is c.judge.ensures) c.clear.ensures

@@ -22,10 +22,10 @@ pub returns-in_default : goal.returns-in_default
 returns-in_default c = ended-full (show_signed c.args.z) c.args.out.now _ _ c.if-out-eq0.false (let f : SFits w64 c.args.z = c.ranges.z in rw (to_z-of_z f) at c.put_signed-number.ensures) _ c.in_default.is
 
 pub bounds-out-n : goal.bounds-out-n
-bounds-out-n c = ended_write (show_signed c.args.z) c.args.out.now _ _ c.if-out-eq0.false (let f : SFits w64 c.args.z = c.ranges.z in rw (to_z-of_z f) at c.put_signed-number.ensures) 0 _ c.in-Bytes.is
+bounds-out-n c = ended_write (show_signed c.args.z) c.args.out.now _ _ c.if-out-eq0.false (let f : SFits w64 c.args.z = c.ranges.z in rw (to_z-of_z f) at c.put_signed-number.ensures) 0 _ c.in-Ok.is
 
 pub overflow_add-result : goal.overflow_add-result
-overflow_add-result c = record { fits = omega (arith, ended-room (show_signed c.args.z) c.args.out.now _ _ c.if-out-eq0.false (let f : SFits w64 c.args.z = c.ranges.z in rw (to_z-of_z f) at c.put_signed-number.ensures) 0 _ c.in-Bytes.is) }
+overflow_add-result c = record { fits = omega (arith, ended-room (show_signed c.args.z) c.args.out.now _ _ c.if-out-eq0.false (let f : SFits w64 c.args.z = c.ranges.z in rw (to_z-of_z f) at c.put_signed-number.ensures) 0 _ c.in-Ok.is) }
 
 pub returns : goal.returns
-returns c = ended-bytes (show_signed c.args.z) c.args.out.now _ _ c.if-out-eq0.false (let f : SFits w64 c.args.z = c.ranges.z in rw (to_z-of_z f) at c.put_signed-number.ensures) c.args.end _ c.in-Bytes.is
+returns c = ended-bytes (show_signed c.args.z) c.args.out.now _ _ c.if-out-eq0.false (let f : SFits w64 c.args.z = c.ranges.z in rw (to_z-of_z f) at c.put_signed-number.ensures) c.args.end _ c.in-Ok.is

@@ -22,14 +22,14 @@ returns-in_default c =
 pub overflow_add-at : goal.overflow_add-at
 overflow_add-at c =
     let f : SFits w64 (get_or c.args.zs.now c.loop-i.i (pos 0)) = record { sfits = c.put_ended-arg-1.given } in
-    let h = line-room _ _ _ _ _ c.loop-i.invariant c.loop-i-test.true _ refl _ c.end_before-end.ensures _ _ (rw (to_z-of_z f) at c.put_ended-number.ensures) _ c.in-Bytes.is in
+    let h = line-room _ _ _ _ _ c.loop-i.invariant c.loop-i-test.true _ refl _ c.end_before-end.ensures _ _ (rw (to_z-of_z f) at c.put_ended-number.ensures) _ c.in-Ok.is in
     let s = c.loop-i.invariant.same in
     record { fits = omega (arith, h, s) }
 
 pub loop-i-preserved : goal.loop-i-preserved
 loop-i-preserved c =
     let f : SFits w64 (get_or c.args.zs.now c.loop-i.i (pos 0)) = record { sfits = c.put_ended-arg-1.given } in
-    line-more _ _ _ _ _ c.loop-i.invariant c.loop-i-test.true _ refl _ c.end_before-end.ensures _ _ (rw (to_z-of_z f) at c.put_ended-number.ensures) _ c.in-Bytes.is
+    line-more _ _ _ _ _ c.loop-i.invariant c.loop-i-test.true _ refl _ c.end_before-end.ensures _ _ (rw (to_z-of_z f) at c.put_ended-number.ensures) _ c.in-Ok.is
 
 pub returns : goal.returns
 returns c = laid-all _ _ _ _ _ c.loop-i.invariant (omega arith)

@@ -14,7 +14,7 @@ pub returns-in_default : goal.returns-in_default
 returns-in_default c = behind-full 45 _ _ _ c.args.out.now c.if-out-eq0.false c.put_count-number.ensures c.in_default.is
 
 pub overflow_add-result : goal.overflow_add-result
-overflow_add-result c = omega (arith, behind-room 45 _ _ _ c.args.out.now c.if-out-eq0.false c.in-Bytes.digits c.put_count-number.ensures c.in-Bytes.is)
+overflow_add-result c = omega (arith, behind-room 45 _ _ _ c.args.out.now c.if-out-eq0.false c.in-Ok.digits c.put_count-number.ensures c.in-Ok.is)
 
 pub returns : goal.returns
-returns c = behind-bytes 45 _ _ _ c.args.out.now c.if-out-eq0.false c.in-Bytes.digits c.put_count-number.ensures c.in-Bytes.is
+returns c = behind-bytes 45 _ _ _ c.args.out.now c.if-out-eq0.false c.in-Ok.digits c.put_count-number.ensures c.in-Ok.is
