@@ -1,10 +1,7 @@
-use mathlib.Core.Path.{◌≡◌, ap}
-use native.Mathlib.Omega.{arith}
+use mathlib.Core.Path.{◌≡◌}
 use Prim.Native.Nat.{◌-◌, ◌≤◌, ◌+◌}
 use lib.ListN.{length, drop}
 use Rattle.leaves.specs.Bytes.{up_to}
-use Rattle.leaves.proofs.Scan.{up_to_hit, up_to_miss, up_to-end}
-use Rattle.lines.proofs.SoundEnds as laws
 use Rattle.lines.proofs.ends.cr_from.Given as goal
 
 abbrev pub invariant-loop-i : goal.invariant-loop-i

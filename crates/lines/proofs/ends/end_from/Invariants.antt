@@ -1,9 +1,7 @@
-use mathlib.Core.Path.{◌≡◌, sym, ◌∙◌}
-use native.Mathlib.Omega.{arith}
+use mathlib.Core.Path.{◌≡◌}
 use Prim.Native.Nat.{◌-◌, ◌≤◌, ◌+◌}
 use lib.ListN.{length, drop}
 use Rattle.lines.specs.LineEnds.{plain_run}
-use Rattle.lines.proofs.SoundEnds as laws
 use Rattle.lines.proofs.ends.end_from.Given as goal
 
 abbrev pub invariant-loop-i : goal.invariant-loop-i

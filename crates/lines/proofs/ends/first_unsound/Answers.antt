@@ -1,16 +1,10 @@
-use mathlib.Core.Path.{◌≡◌, sym, ◌∙◌}
+use mathlib.Core.Path.{sym, ◌∙◌}
 use native.Mathlib.Omega.{arith}
-use Prim.Native.Nat.{◌-◌, ◌≤◌}
+use Prim.Native.Nat.{◌-◌}
 use Rattle.rules.specs.Spool.{most_volumes}
-use borrow.Author.Rules.{rules}
 use borrow.Author.Tests.{not-true, not-false}
-use Rattle.lines.specs.LineEnds.{first_unsound, unsound_from}
-use Rattle.lines.specs.VolumePlaces.{layout}
 use Rattle.lines.proofs.SoundEnds as laws
 use Rattle.lines.proofs.ends.first_unsound.Goals as goal
-
-pub overflow_cast-count : goal.overflow_cast-count
-overflow_cast-count c = search rules
 
 pub loop-i-init : goal.loop-i-init
 loop-i-init c = (omega arith, laws.unsound-start c.args.s.now c.args.l)
@@ -18,35 +12,8 @@ loop-i-init c = (omega arith, laws.unsound-start c.args.s.now c.args.l)
 pub returns-then-count-i : goal.returns-then-count-i
 returns-then-count-i c = sym (c.loop-i.invariant.1 ∙ laws.unsound-none c.args.s.now c.args.l (most_volumes - c.loop-i.i) c.loop-i.i c.if-count-i.true)
 
-pub offset_bounds-places-i : goal.offset_bounds-places-i
-offset_bounds-places-i c = omega arith
-
-pub bounds-places-i : goal.bounds-places-i
-bounds-places-i c = omega arith
-
-pub offset_bounds-lengths-i : goal.offset_bounds-lengths-i
-offset_bounds-lengths-i c = omega arith
-
-pub bounds-lengths-i : goal.bounds-lengths-i
-bounds-lengths-i c = omega arith
-
-pub sound_at-requires : goal.sound_at-requires
-sound_at-requires c = tt
-
-pub overflow_cast-result : goal.overflow_cast-result
-overflow_cast-result c = omega arith
-
-pub overflow_add-result : goal.overflow_add-result
-overflow_add-result c = omega arith
-
 pub returns-then-not-sound_at : goal.returns-then-not-sound_at
 returns-then-not-sound_at c = sym (c.loop-i.invariant.1 ∙ laws.unsound-here c.args.s.now c.args.l c.loop-i.i c.loop-i-test.true c.if-count-i.false (sym c.sound_at.ensures ∙ not-true _ c.if-not-sound_at.true-raw))
-
-pub overflow_add-i : goal.overflow_add-i
-overflow_add-i c = omega arith
-
-pub loop-i-smaller : goal.loop-i-smaller
-loop-i-smaller c = omega arith
 
 pub loop-i-preserved : goal.loop-i-preserved
 loop-i-preserved c = (omega arith, c.loop-i.invariant.1 ∙ laws.unsound-later c.args.s.now c.args.l c.loop-i.i c.loop-i-test.true c.if-count-i.false (sym c.sound_at.ensures ∙ not-false _ c.if-not-sound_at.false-raw))

@@ -1,12 +1,8 @@
-use mathlib.Core.Path.{◌≡◌, sym, ◌∙◌}
-use native.Mathlib.Omega.{arith}
+use mathlib.Core.Path.{◌≡◌}
 use Prim.Native.Nat.{◌-◌, ◌≤◌}
 use Rattle.rules.specs.Spool.{most_volumes}
-use borrow.Author.Rules.{rules}
-use borrow.Author.Tests.{not-true, not-false}
 use Rattle.lines.specs.LineEnds.{first_unsound, unsound_from}
 use Rattle.lines.specs.VolumePlaces.{layout}
-use Rattle.lines.proofs.SoundEnds as laws
 use Rattle.lines.proofs.ends.first_unsound.Given as goal
 
 abbrev pub invariant-loop-i : goal.invariant-loop-i

@@ -1,9 +1,6 @@
 use mathlib.Core.Path.{sym, ◌∙◌}
 use native.Mathlib.Omega.{arith}
-use Prim.Native.Nat.{◌-◌}
-use lib.ListN.{length}
 use borrow.Author.Tests.{not-false}
-use Rattle.lines.specs.LineEnds.{NoEnd}
 use Rattle.lines.proofs.SoundEnds as laws
 use Rattle.lines.proofs.ends.skip_eights.Goals as goal
 

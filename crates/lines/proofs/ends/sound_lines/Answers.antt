@@ -1,27 +1,14 @@
-use mathlib.Core.Path.{◌≡◌, sym, ◌∙◌}
+use mathlib.Core.Path.{sym, ◌∙◌}
 use native.Mathlib.Omega.{arith}
-use Prim.Native.Nat.{◌-◌, ◌≤◌}
-use lib.ListN.{length, drop}
 use mathlib.Core.Path.{refl}
-use Rattle.rules.specs.Base.{is_some}
-use Rattle.rules.specs.Spool.{lines_of}
 use Rattle.lines.proofs.SoundEnds as laws
 use Rattle.lines.proofs.ends.sound_lines.Goals as goal
 
 pub loop-i-init : goal.loop-i-init
 loop-i-init c = (omega arith, refl)
 
-pub end_from-e-requires : goal.end_from-e-requires
-end_from-e-requires c = omega arith
-
 pub returns-then-s-e : goal.returns-then-s-e
 returns-then-s-e c = sym (c.loop-i.invariant.1 ∙ laws.sound-over c.args.s.now c.loop-i.i c.end_from-e.result c.end_from-e.ensures c.if-s-e.true)
-
-pub bounds-s-e : goal.bounds-s-e
-bounds-s-e c = omega arith
-
-pub last_at-requires : goal.last_at-requires
-last_at-requires c = omega arith
 
 pub returns-then-s-e-ne-CR : goal.returns-then-s-e-ne-CR
 returns-then-s-e-ne-CR c = c.last_at.ensures ∙ sym (c.loop-i.invariant.1 ∙ laws.sound-last c.args.s.now c.loop-i.i c.end_from-e.result c.end_from-e.ensures c.if-s-e.false c.if-s-e-ne-CR.true)
@@ -32,20 +19,11 @@ overflow_sub-e c = omega (arith, c.end_from-e.ensures)
 pub returns-then-e-i-gt-MOST_IN_LINE : goal.returns-then-e-i-gt-MOST_IN_LINE
 returns-then-e-i-gt-MOST_IN_LINE c = sym (c.loop-i.invariant.1 ∙ laws.sound-wide c.args.s.now c.loop-i.i c.end_from-e.result c.end_from-e.ensures c.if-s-e.false c.if-s-e-ne-CR.false c.if-e-i-gt-MOST_IN_LINE.true)
 
-pub overflow_add-next : goal.overflow_add-next
-overflow_add-next c = omega arith
-
 pub returns-then-s-next : goal.returns-then-s-next
 returns-then-s-next c = sym (c.loop-i.invariant.1 ∙ laws.sound-cut c.args.s.now c.loop-i.i c.end_from-e.result c.end_from-e.ensures c.if-s-e.false c.if-s-e-ne-CR.false c.if-s-next.true)
 
-pub bounds-s-next : goal.bounds-s-next
-bounds-s-next c = omega arith
-
 pub returns-then-s-next-ne-LF : goal.returns-then-s-next-ne-LF
 returns-then-s-next-ne-LF c = sym (c.loop-i.invariant.1 ∙ laws.sound_no-lf c.args.s.now c.loop-i.i c.end_from-e.result c.end_from-e.ensures c.if-s-e.false c.if-s-e-ne-CR.false c.if-s-next.false c.if-s-next-ne-LF.true)
-
-pub overflow_add-i : goal.overflow_add-i
-overflow_add-i c = omega arith
 
 pub loop-i-smaller : goal.loop-i-smaller
 loop-i-smaller c = omega (arith, c.end_from-e.ensures)

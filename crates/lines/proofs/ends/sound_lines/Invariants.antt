@@ -1,11 +1,8 @@
-use mathlib.Core.Path.{◌≡◌, sym, ◌∙◌}
-use native.Mathlib.Omega.{arith}
+use mathlib.Core.Path.{◌≡◌}
 use Prim.Native.Nat.{◌-◌, ◌≤◌}
 use lib.ListN.{length, drop}
-use mathlib.Core.Path.{refl}
 use Rattle.rules.specs.Base.{is_some}
 use Rattle.rules.specs.Spool.{lines_of}
-use Rattle.lines.proofs.SoundEnds as laws
 use Rattle.lines.proofs.ends.sound_lines.Given as goal
 
 abbrev pub invariant-loop-i : goal.invariant-loop-i

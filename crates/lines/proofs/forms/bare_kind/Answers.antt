@@ -1,21 +1,14 @@
 use mathlib.Core.Path.{sym, ◌∙◌}
 use Rattle.lines.specs.LineSketch.{word_kind}
 use Rattle.lines.proofs.LineSketch as laws
-use borrow.Author.Rules.{rules}
 use Rattle.lines.proofs.forms.bare_kind.Goals as goal
 
 pub returns-then-s-eq0 : goal.returns-then-s-eq0
 returns-then-s-eq0 c = sym (laws.kind-none c.args.s.now c.if-s-eq0.true)
 
-pub spells-requires : goal.spells-requires
-spells-requires c = search rules
-
 pub returns-then-spells : goal.returns-then-spells
 unfolding word_kind
 returns-then-spells c = sym (laws.kind-some c.args.s.now c.if-s-eq0.false ∙ rw (sym c.spells.ensures ∙ c.if-spells.true))
-
-pub spells-requires-2 : goal.spells-requires-2
-spells-requires-2 c = search rules
 
 pub returns-then-spells-2 : goal.returns-then-spells-2
 unfolding word_kind

@@ -1,24 +1,11 @@
 use mathlib.Core.Path.{sym, ◌∙◌}
 use borrow.Author.Tests.{eq-eqb, ne_eqb}
 use Rattle.lines.specs.LineSketch.{brace_sketch}
-use borrow.Author.Rules.{rules}
 use Rattle.lines.proofs.forms.brace_sketch.Goals as goal
-
-pub keyless-requires : goal.keyless-requires
-keyless-requires c = search rules
 
 pub returns-then-size-eq0 : goal.returns-then-size-eq0
 unfolding brace_sketch
 returns-then-size-eq0 c = c.keyless.ensures ∙ sym (rw (eq-eqb _ _ c.if-size-eq0.true))
-
-pub overflow_add-first : goal.overflow_add-first
-overflow_add-first c = search rules
-
-pub overflow_add-first-2 : goal.overflow_add-first-2
-overflow_add-first-2 c = search rules
-
-pub keyless-requires-then-first-size : goal.keyless-requires-then-first-size
-keyless-requires-then-first-size c = search rules
 
 pub returns-then-first-size : goal.returns-then-first-size
 unfolding brace_sketch

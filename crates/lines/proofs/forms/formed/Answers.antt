@@ -1,7 +1,6 @@
 use mathlib.Core.Path.{sym, ◌∙◌}
 use borrow.Author.Tests.{eq-eqb, ne_eqb}
 use Rattle.lines.specs.LineSketch.{sketch_form}
-use borrow.Author.Rules.{rules}
 use Rattle.lines.proofs.forms.formed.Goals as goal
 
 pub returns-then-f-eq-SKETCH_EQUALS : goal.returns-then-f-eq-SKETCH_EQUALS
@@ -11,9 +10,6 @@ returns-then-f-eq-SKETCH_EQUALS c = sym (rw (eq-eqb _ _ c.if-f-eq-SKETCH_EQUALS.
 pub returns-then-f-eq-SKETCH_OPENS : goal.returns-then-f-eq-SKETCH_OPENS
 unfolding sketch_form
 returns-then-f-eq-SKETCH_OPENS c = sym (rw (ne_eqb _ _ c.if-f-eq-SKETCH_EQUALS.false, eq-eqb _ _ c.if-f-eq-SKETCH_OPENS.true))
-
-pub keyless_form-requires : goal.keyless_form-requires
-keyless_form-requires c = search rules
 
 pub returns : goal.returns
 unfolding sketch_form

@@ -1,7 +1,6 @@
 use mathlib.Core.Path.{sym, ◌∙◌}
 use borrow.Author.Tests.{eq-eqb, ne_eqb}
 use Rattle.lines.specs.LineSketch.{keyless_form}
-use borrow.Author.Rules.{rules}
 use Rattle.lines.proofs.forms.keyless_form.Goals as goal
 
 pub returns-then-kind-eq-SKETCH_IGNORED : goal.returns-then-kind-eq-SKETCH_IGNORED
@@ -16,15 +15,9 @@ pub returns-then-kind-eq-SKETCH_EOF : goal.returns-then-kind-eq-SKETCH_EOF
 unfolding keyless_form
 returns-then-kind-eq-SKETCH_EOF c = sym (rw (ne_eqb _ _ c.if-kind-eq-SKETCH_IGNORED.false, ne_eqb _ _ c.if-kind-eq-SKETCH_CLOSE.false, eq-eqb _ _ c.if-kind-eq-SKETCH_EOF.true))
 
-pub refused-requires : goal.refused-requires
-refused-requires c = search rules
-
 pub returns-then-kind-eq-SKETCH_BAD_BYTES : goal.returns-then-kind-eq-SKETCH_BAD_BYTES
 unfolding keyless_form
 returns-then-kind-eq-SKETCH_BAD_BYTES c = c.refused.ensures ∙ sym (rw (ne_eqb _ _ c.if-kind-eq-SKETCH_IGNORED.false, ne_eqb _ _ c.if-kind-eq-SKETCH_CLOSE.false, ne_eqb _ _ c.if-kind-eq-SKETCH_EOF.false, eq-eqb _ _ c.if-kind-eq-SKETCH_BAD_BYTES.true))
-
-pub refused-requires-2 : goal.refused-requires-2
-refused-requires-2 c = search rules
 
 pub returns : goal.returns
 unfolding keyless_form

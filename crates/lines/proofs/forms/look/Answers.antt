@@ -5,14 +5,10 @@ use lib.ListN.{length, drop, length-drop}
 use lib.Seq.{length-take-le}
 use Rattle.lines.specs.LineLook.{seen_at}
 use Rattle.lines.proofs.LineLook as laws
-use borrow.Author.Rules.{rules}
 use Rattle.lines.proofs.forms.look.Goals as goal
 
 pub returns-then-body-gt-MOST_BYTES : goal.returns-then-body-gt-MOST_BYTES
 returns-then-body-gt-MOST_BYTES c = sym (laws.look-long c.args.volume c.args.line c.args.base c.args.at c.args.body.now (omega arith))
-
-pub overflow_sub-body : goal.overflow_sub-body
-overflow_sub-body c = search rules
 
 pub returns-then-body-base : goal.returns-then-body-base
 returns-then-body-base c = sym (laws.look-long c.args.volume c.args.line c.args.base c.args.at c.args.body.now (omega arith))
@@ -20,23 +16,11 @@ returns-then-body-base c = sym (laws.look-long c.args.volume c.args.line c.args.
 pub returns-then-at-base : goal.returns-then-at-base
 returns-then-at-base c = sym (laws.look-early c.args.volume c.args.line c.args.base c.args.at c.args.body.now c.if-at-base.true)
 
-pub overflow_cast-from : goal.overflow_cast-from
-overflow_cast-from c = search rules
-
 pub returns-then-body-from : goal.returns-then-body-from
 returns-then-body-from c = sym (laws.look-behind c.args.volume c.args.line c.args.base c.args.at c.args.body.now (omega arith))
 
-pub cr_from-to-requires : goal.cr_from-to-requires
-cr_from-to-requires c = search rules
-
 pub returns-then-to-body : goal.returns-then-to-body
 returns-then-to-body c = sym (laws.look-ends c.args.volume c.args.line c.args.base c.args.at c.args.body.now (omega arith) c.if-at-base.false (omega arith) (c.args.at - c.args.base) c.cr_from-to.result refl c.cr_from-to.ensures c.if-to-body.true)
-
-pub slice_bounds-line_form-count : goal.slice_bounds-line_form-count
-slice_bounds-line_form-count c = search rules
-
-pub slice_bounds-line_form-start : goal.slice_bounds-line_form-start
-slice_bounds-line_form-start c = search rules
 
 pub slice_bounds-line_form-end : goal.slice_bounds-line_form-end
 slice_bounds-line_form-end c = laws.cr-inside c.args.body.now (c.args.at - c.args.base) c.cr_from-to.result c.if-body-from.false c.cr_from-to.ensures
@@ -53,12 +37,6 @@ overflow_cast-to c = omega (arith, laws.cr-inside c.args.body.now (c.args.at - c
 
 pub overflow_add-base : goal.overflow_add-base
 overflow_add-base c = omega (arith, laws.cr-inside c.args.body.now (c.args.at - c.args.base) c.cr_from-to.result c.if-body-from.false c.cr_from-to.ensures)
-
-pub overflow_cast-body : goal.overflow_cast-body
-overflow_cast-body c = search rules
-
-pub overflow_add-base-2 : goal.overflow_add-base-2
-overflow_add-base-2 c = search rules
 
 pub seen-requires : goal.seen-requires
 seen-requires c = omega (arith, c.if-to-body.false, laws.cr-inside c.args.body.now (c.args.at - c.args.base) c.cr_from-to.result c.if-body-from.false c.cr_from-to.ensures)

@@ -3,11 +3,7 @@ use native.Mathlib.Omega.{arith}
 use lib.ListN.{drop}
 use Rattle.lines.specs.VolumeNames.{all_spaces}
 use Rattle.lines.proofs.VolumeNames as laws
-use borrow.Author.Rules.{rules}
 use Rattle.lines.proofs.names.good_name.Goals as goal
-
-pub letters_in-k-requires : goal.letters_in-k-requires
-letters_in-k-requires c = search rules
 
 pub returns-then-k-eq0 : goal.returns-then-k-eq0
 returns-then-k-eq0 c = sym (laws.name-none c.args.n.now c.requires (sym c.letters_in-k.ensures ∙ c.if-k-eq0.true))

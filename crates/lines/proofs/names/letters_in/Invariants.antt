@@ -1,11 +1,7 @@
 use Prim.Native.Nat.{◌+◌, ◌-◌, ◌≤◌}
-use mathlib.Core.Path.{◌≡◌, sym, ◌∙◌}
-use native.Mathlib.Omega.{arith}
+use mathlib.Core.Path.{◌≡◌}
 use lib.ListN.{length, drop}
-use borrow.Author.Tests.{not-true, not-false}
 use Rattle.lines.specs.VolumeNames.{letters}
-use Rattle.lines.proofs.VolumeNames as laws
-use borrow.Author.Rules.{rules}
 use Rattle.lines.proofs.names.letters_in.Given as goal
 
 abbrev pub invariant-loop-i : goal.invariant-loop-i

@@ -1,11 +1,7 @@
-use Prim.Native.Nat.{◌-◌, ◌≤◌}
-use mathlib.Core.Path.{◌≡◌, refl, sym, ◌∙◌}
+use mathlib.Core.Path.{refl, sym, ◌∙◌}
 use native.Mathlib.Omega.{arith}
-use lib.ListN.{length, drop}
-use Rattle.rules.specs.Base.{distinct}
 use Rattle.lines.specs.VolumeNames.{raw_name}
 use Rattle.lines.proofs.VolumeNames as laws
-use mathlib.Core.List.{map}
 use Rattle.lines.proofs.names.names_differ.Goals as goal
 
 pub loop-i-init : goal.loop-i-init
@@ -16,12 +12,6 @@ name_again-requires c = (c.loop-i-test.true, c.requires)
 
 pub returns-then-name_again : goal.returns-then-name_again
 returns-then-name_again c = sym (c.loop-i.invariant.1 ∙ laws.differ-stop (raw_name c.args.s.now) c.args.places.now c.loop-i.i c.loop-i-test.true (sym c.name_again.ensures ∙ c.if-name_again.true))
-
-pub overflow_add-i : goal.overflow_add-i
-overflow_add-i c = omega arith
-
-pub loop-i-smaller : goal.loop-i-smaller
-loop-i-smaller c = omega arith
 
 pub loop-i-preserved : goal.loop-i-preserved
 loop-i-preserved c = (omega arith, c.loop-i.invariant.1 ∙ laws.differ-more (raw_name c.args.s.now) c.args.places.now c.loop-i.i c.loop-i-test.true (sym c.name_again.ensures ∙ c.if-name_again.false))

@@ -1,10 +1,8 @@
 use Prim.Native.Nat.{◌-◌, ◌≤◌}
-use mathlib.Core.Path.{◌≡◌, refl, sym, ◌∙◌}
-use native.Mathlib.Omega.{arith}
+use mathlib.Core.Path.{◌≡◌}
 use lib.ListN.{length, drop}
 use Rattle.rules.specs.Base.{distinct}
 use Rattle.lines.specs.VolumeNames.{raw_name}
-use Rattle.lines.proofs.VolumeNames as laws
 use mathlib.Core.List.{map}
 use Rattle.lines.proofs.names.names_differ.Given as goal
 

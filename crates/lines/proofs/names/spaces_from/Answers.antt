@@ -1,25 +1,13 @@
-use Prim.Native.Nat.{◌-◌, ◌≤◌}
-use mathlib.Core.Path.{◌≡◌, refl, sym, ◌∙◌}
+use mathlib.Core.Path.{refl, sym, ◌∙◌}
 use native.Mathlib.Omega.{arith}
-use lib.ListN.{length, drop}
-use Rattle.lines.specs.VolumeNames.{all_spaces}
 use Rattle.lines.proofs.VolumeNames as laws
 use Rattle.lines.proofs.names.spaces_from.Goals as goal
 
 pub loop-i-init : goal.loop-i-init
 loop-i-init c = (c.requires, refl)
 
-pub bounds-n-i : goal.bounds-n-i
-bounds-n-i c = omega arith
-
 pub returns-then-n-i-ne-SPACE : goal.returns-then-n-i-ne-SPACE
 returns-then-n-i-ne-SPACE c = sym (c.loop-i.invariant.1 ∙ laws.spaces-stop c.args.n.now c.loop-i.i c.loop-i-test.true c.if-n-i-ne-SPACE.true)
-
-pub overflow_add-i : goal.overflow_add-i
-overflow_add-i c = omega arith
-
-pub loop-i-smaller : goal.loop-i-smaller
-loop-i-smaller c = omega arith
 
 pub loop-i-preserved : goal.loop-i-preserved
 loop-i-preserved c = (omega arith, c.loop-i.invariant.1 ∙ laws.spaces-more c.args.n.now c.loop-i.i c.loop-i-test.true c.if-n-i-ne-SPACE.false)

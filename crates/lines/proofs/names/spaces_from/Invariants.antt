@@ -1,9 +1,7 @@
 use Prim.Native.Nat.{◌-◌, ◌≤◌}
-use mathlib.Core.Path.{◌≡◌, refl, sym, ◌∙◌}
-use native.Mathlib.Omega.{arith}
+use mathlib.Core.Path.{◌≡◌}
 use lib.ListN.{length, drop}
 use Rattle.lines.specs.VolumeNames.{all_spaces}
-use Rattle.lines.proofs.VolumeNames as laws
 use Rattle.lines.proofs.names.spaces_from.Given as goal
 
 abbrev pub invariant-loop-i : goal.invariant-loop-i

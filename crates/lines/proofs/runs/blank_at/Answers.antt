@@ -1,35 +1,19 @@
 use mathlib.Core.Path.{sym}
 use native.Mathlib.Omega.{arith}
 use Rattle.lines.proofs.LineForms as laws
-use borrow.Author.Rules.{rules}
 use Rattle.lines.proofs.runs.blank_at.Goals as goal
-
-pub bounds-s-i : goal.bounds-s-i
-bounds-s-i c = search rules
 
 pub returns-then-s-i-eq-SPACE : goal.returns-then-s-i-eq-SPACE
 returns-then-s-i-eq-SPACE c = sym (laws.blank_space c.args.s.now c.args.i (omega arith) c.if-s-i-eq-SPACE.true)
 
-pub bounds-s-i-2 : goal.bounds-s-i-2
-bounds-s-i-2 c = search rules
-
 pub returns-then-s-i-eq-TAB : goal.returns-then-s-i-eq-TAB
 returns-then-s-i-eq-TAB c = sym (laws.blank_tab c.args.s.now c.args.i (omega arith) c.if-s-i-eq-TAB.true)
-
-pub bounds-s-i-3 : goal.bounds-s-i-3
-bounds-s-i-3 c = search rules
 
 pub returns-then-s-i : goal.returns-then-s-i
 returns-then-s-i c = sym (laws.blank-other c.args.s.now c.args.i (omega arith) c.if-s-i-eq-SPACE.false c.if-s-i-eq-TAB.false c.if-s-i.true)
 
-pub overflow_add-next : goal.overflow_add-next
-overflow_add-next c = search rules
-
 pub returns-then-s-next : goal.returns-then-s-next
 returns-then-s-next c = sym (laws.blank-last c.args.s.now c.args.i (omega arith) c.if-s-i-eq-SPACE.false c.if-s-i-eq-TAB.false c.if-s-next.true)
-
-pub bounds-s-next : goal.bounds-s-next
-bounds-s-next c = search rules
 
 pub returns-then-s-next-ne-WIDE_TRAIL : goal.returns-then-s-next-ne-WIDE_TRAIL
 returns-then-s-next-ne-WIDE_TRAIL c = sym (laws.blank-half c.args.s.now c.args.i (omega arith) c.if-s-i-eq-SPACE.false c.if-s-i-eq-TAB.false c.if-s-i.false c.if-s-next.false c.if-s-next-ne-WIDE_TRAIL.true)

@@ -1,19 +1,11 @@
 use mathlib.Core.Path.{sym, ◌∙◌}
 use native.Mathlib.Omega.{arith}
-use Prim.Native.Nat.{◌-◌, ◌≤◌, ◌+◌}
-use lib.ListN.{length}
-use Rattle.lines.specs.LineForms.{Passed}
+use Prim.Native.Nat.{◌+◌}
 use Rattle.lines.proofs.LineLook as laws
 use Rattle.lines.proofs.runs.clean_run.Goals as goal
 
-pub plain_run-i-requires : goal.plain_run-i-requires
-plain_run-i-requires c = c.requires
-
 pub loop-i-init : goal.loop-i-init
 loop-i-init c = (c.plain_run-i.ensures.high, c.plain_run-i.ensures)
-
-pub char_at-n-requires : goal.char_at-n-requires
-char_at-n-requires c = omega arith
 
 pub returns-then-n-eq0 : goal.returns-then-n-eq0
 returns-then-n-eq0 c = record { passed = c.loop-i.invariant.1; stop = sym c.char_at-n.ensures ∙ c.if-n-eq0.true }

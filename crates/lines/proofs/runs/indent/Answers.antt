@@ -1,15 +1,10 @@
-use Prim.Native.Nat.{◌-◌, ◌≤◌}
 use mathlib.Core.Path.{sym, ◌∙◌}
 use native.Mathlib.Omega.{arith}
-use lib.ListN.{length}
 use Rattle.lines.proofs.LineLook as laws
 use Rattle.lines.proofs.runs.indent.Goals as goal
 
 pub loop-i-init : goal.loop-i-init
 loop-i-init c = (omega arith, laws.blanks-start c.args.s.now)
-
-pub blank_at-n-requires : goal.blank_at-n-requires
-blank_at-n-requires c = omega arith
 
 pub returns-then-n-eq0 : goal.returns-then-n-eq0
 returns-then-n-eq0 c = laws.blanks-stop c.args.s.now c.loop-i.i c.loop-i.invariant.1 (sym c.blank_at-n.ensures ∙ c.if-n-eq0.true)

@@ -1,6 +1,5 @@
 use mathlib.Core.Path.{sym, ◌∙◌}
 use Rattle.lines.proofs.LineLook as laws
-use borrow.Author.Rules.{rules}
 use Rattle.lines.proofs.runs.key_byte.Goals as goal
 
 pub returns-then-b-eq61 : goal.returns-then-b-eq61
@@ -8,9 +7,6 @@ returns-then-b-eq61 c = sym (laws.byte_equal c.args.b c.if-b-eq61.true)
 
 pub returns-then-b-eq58 : goal.returns-then-b-eq58
 returns-then-b-eq58 c = sym (laws.byte-colon c.args.b c.if-b-eq58.true)
-
-pub in_run-requires : goal.in_run-requires
-in_run-requires c = search rules
 
 pub returns : goal.returns
 returns c = c.in_run.ensures ∙ sym (laws.byte-other c.args.b c.if-b-eq61.false c.if-b-eq58.false)

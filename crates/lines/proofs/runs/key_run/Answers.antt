@@ -1,19 +1,11 @@
 use mathlib.Core.Path.{sym, ◌∙◌}
 use native.Mathlib.Omega.{arith}
-use Prim.Native.Nat.{◌-◌, ◌≤◌, ◌+◌}
-use lib.ListN.{length}
-use Rattle.lines.specs.LineForms.{KeyPassed}
+use Prim.Native.Nat.{◌+◌}
 use Rattle.lines.proofs.LineLook as laws
 use Rattle.lines.proofs.runs.key_run.Goals as goal
 
-pub plain_key-i-requires : goal.plain_key-i-requires
-plain_key-i-requires c = c.requires
-
 pub loop-i-init : goal.loop-i-init
 loop-i-init c = (c.plain_key-i.ensures.passed.high, c.plain_key-i.ensures)
-
-pub key_char-n-requires : goal.key_char-n-requires
-key_char-n-requires c = omega arith
 
 pub returns-then-n-eq0 : goal.returns-then-n-eq0
 returns-then-n-eq0 c = record { passed = c.loop-i.invariant.1.passed; key = c.loop-i.invariant.1.key; stop = sym c.key_char-n.ensures ∙ c.if-n-eq0.true }

@@ -1,9 +1,6 @@
-use mathlib.Core.Path.{sym, ◌∙◌}
-use native.Mathlib.Omega.{arith}
-use Prim.Native.Nat.{◌-◌, ◌≤◌, ◌+◌}
+use Prim.Native.Nat.{◌-◌, ◌≤◌}
 use lib.ListN.{length}
 use Rattle.lines.specs.LineForms.{KeyPassed}
-use Rattle.lines.proofs.LineLook as laws
 use Rattle.lines.proofs.runs.key_run.Given as goal
 
 abbrev pub invariant-loop-i : goal.invariant-loop-i

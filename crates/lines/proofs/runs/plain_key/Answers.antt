@@ -1,29 +1,14 @@
 use mathlib.Core.Path.{sym, ◌∙◌}
 use native.Mathlib.Omega.{arith}
-use Prim.Native.Nat.{◌-◌, ◌≤◌}
-use lib.ListN.{length}
 use borrow.Author.Tests.{not-false}
-use Rattle.lines.specs.LineForms.{KeyPassed}
 use Rattle.lines.proofs.LineLook as laws
 use Rattle.lines.proofs.runs.plain_key.Goals as goal
 
 pub loop-i-init : goal.loop-i-init
 loop-i-init c = (c.requires, laws.key-none_yet c.args.t.now c.args.from c.requires)
 
-pub bounds-t-i : goal.bounds-t-i
-bounds-t-i c = omega arith
-
-pub key_byte-requires : goal.key_byte-requires
-key_byte-requires c = tt
-
 pub returns-then-not-key_byte : goal.returns-then-not-key_byte
 returns-then-not-key_byte c = c.loop-i.invariant.1
-
-pub overflow_add-i : goal.overflow_add-i
-overflow_add-i c = omega arith
-
-pub loop-i-smaller : goal.loop-i-smaller
-loop-i-smaller c = omega arith
 
 pub loop-i-preserved : goal.loop-i-preserved
 loop-i-preserved c = (omega arith, laws.plain-key-passed c.args.t.now c.args.from c.loop-i.i c.loop-i-test.true (sym c.key_byte.ensures ∙ not-false _ c.if-not-key_byte.false-raw) c.loop-i.invariant.1)

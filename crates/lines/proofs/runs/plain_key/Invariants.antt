@@ -1,10 +1,6 @@
-use mathlib.Core.Path.{sym, ◌∙◌}
-use native.Mathlib.Omega.{arith}
 use Prim.Native.Nat.{◌-◌, ◌≤◌}
 use lib.ListN.{length}
-use borrow.Author.Tests.{not-false}
 use Rattle.lines.specs.LineForms.{KeyPassed}
-use Rattle.lines.proofs.LineLook as laws
 use Rattle.lines.proofs.runs.plain_key.Given as goal
 
 abbrev pub invariant-loop-i : goal.invariant-loop-i

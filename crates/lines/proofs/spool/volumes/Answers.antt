@@ -2,26 +2,13 @@ use mathlib.Core.Path.{sym, ◌∙◌}
 use native.Mathlib.Omega.{arith}
 use Rattle.lines.proofs.VolumePlaces as laws
 use lib.Seq.{length-take-le}
-use borrow.Author.Rules.{rules}
 use Rattle.lines.proofs.spool.volumes.Goals as goal
-
-pub no_layout-requires : goal.no_layout-requires
-no_layout-requires c = search rules
 
 pub returns-then-s-eq0 : goal.returns-then-s-eq0
 returns-then-s-eq0 c = c.no_layout.ensures ∙ sym (laws.volumes-empty c.args.s.now c.if-s-eq0.true)
 
-pub no_layout-requires-then-s-gt-MOST_BYTES : goal.no_layout-requires-then-s-gt-MOST_BYTES
-no_layout-requires-then-s-gt-MOST_BYTES c = search rules
-
 pub returns-then-s-gt-MOST_BYTES : goal.returns-then-s-gt-MOST_BYTES
 returns-then-s-gt-MOST_BYTES c = c.no_layout-then-s-gt-MOST_BYTES.ensures ∙ sym (laws.volumes-long c.args.s.now c.if-s-gt-MOST_BYTES.true)
-
-pub walk-l-requires : goal.walk-l-requires
-walk-l-requires c = search rules
-
-pub overflow_cast-count : goal.overflow_cast-count
-overflow_cast-count c = omega arith
 
 pub slice_bounds-places-end : goal.slice_bounds-places-end
 slice_bounds-places-end c = let t = laws.layout-told c.args.s.now c.walk-l.result c.walk-l.ensures in omega (arith, t.0, t.1)
@@ -34,9 +21,6 @@ names_differ-requires c = (laws.layout-told c.args.s.now c.walk-l.result c.walk-
 
 pub returns-then-names_differ : goal.returns-then-names_differ
 returns-then-names_differ c = sym (laws.volumes-differ c.args.s.now c.walk-l.result c.walk-l.ensures (omega (arith, c.if-s-eq0.false)) c.if-s-gt-MOST_BYTES.false (sym c.names_differ.ensures ∙ c.if-names_differ.true))
-
-pub no_layout-requires-2 : goal.no_layout-requires-2
-no_layout-requires-2 c = search rules
 
 pub returns : goal.returns
 returns c = c.no_layout-2.ensures ∙ sym (laws.volumes-again c.args.s.now c.walk-l.result c.walk-l.ensures (omega (arith, c.if-s-eq0.false)) c.if-s-gt-MOST_BYTES.false (sym c.names_differ.ensures ∙ c.if-names_differ.false))
