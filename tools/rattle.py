@@ -4,6 +4,8 @@ import collections, textwrap
 # the widest line, and the widest list of arguments in one line, of the layout (`rt fmt`)
 TO_ONE_LINE = 100
 TO_ONE_CALL = 60
+# a longer list whose items are no wider than this stands several items to a line
+NARROW_ITEM = 10
 
 
 def in_order(names):
@@ -55,6 +57,18 @@ def laid(call, indent, around):
         return f"{name}({laid(args[0], indent, around + len(name) + 2)})"
     lines = "".join(f"{' ' * (indent + 4)}{laid(a, indent + 4, 1)},\n" for a in args)
     return f"{name}(\n{lines}{' ' * indent})"
+
+
+def listed(items, indent, around):
+    """A borrowed list in the layout of `rt fmt`; around: how many more characters stand in its line."""
+    line = ", ".join(items)
+    if len(line) <= TO_ONE_CALL and indent + around + len(f"&[{line}]") <= TO_ONE_LINE:
+        return f"&[{line}]"
+    inner = " " * (indent + 4)
+    rows = [f"{inner}{i},\n" for i in items]
+    if max(map(len, items)) <= NARROW_ITEM:
+        rows = [f"{r}\n" for r in textwrap.wrap(line + ",", TO_ONE_LINE - 1, initial_indent=inner, subsequent_indent=inner)]
+    return f"&[\n{''.join(rows)}{' ' * indent}]"
 
 
 def test(condition, call):

@@ -2,11 +2,9 @@
 // Made by tools/make-keys from the definitions' rows: change those, or the script.
 #![tactic(auto)]
 
-ghost use Rattle.std.specs.Prelude.{false, true};
-ghost use Rattle.rules.specs.Blocks.{top_table, file_table, range_table, base_table, elec_table, sym_table, later_table, drawing_table, defines_table, symbol_table, element_table};
-ghost use Rattle.rules.specs.Figures.{layer_table, figure_table, point_table, text_table, placed_table, wire_table};
+ghost use Rattle.std.specs.Prelude.{◌≡◌};
 ghost use Rattle.leaves.specs.Writing.{Puts};
-ghost use Rattle.keywords.specs.Keys.{key_at};
+ghost use Rattle.keywords.specs.Keys.{key_at, keys, texts};
 ghost use Rattle.tables.specs.Tables.{table_of};
 
 use leaves::NoRoom;
@@ -26,480 +24,94 @@ use tables::{
     TABLE_SYMBOL, TABLE_SYMBOL_POINTS, TABLE_SYMBOL_TEXT, TABLE_TOP, TABLE_WIRE, TABLE_WIRED_LAYER,
 };
 
-// Outside all blocks; the order of the blocks is judged by the reader.
-fn top_key(row: u8, out: &mut [u8]) -> Result<usize, NoRoom>
-    ensures { Puts (key_at top_table row) out.old out.new result }
+// A table's keys in the order of its rows; a table that is none has no rows.
+#[tactic(auto, unfolding(tables::specs::Tables::table_of, rules::specs::Blocks::top_table, rules::specs::Blocks::file_table, rules::specs::Blocks::range_table, rules::specs::Blocks::base_table, rules::specs::Blocks::elec_table, rules::specs::Blocks::sym_table, rules::specs::Blocks::later_table, rules::specs::Blocks::drawing_table, rules::specs::Blocks::defines_table, rules::specs::Blocks::symbol_table, rules::specs::Blocks::element_table, rules::specs::Figures::layer_table, rules::specs::Figures::figure_table, rules::specs::Figures::point_table, rules::specs::Figures::text_table, rules::specs::Figures::placed_table, rules::specs::Figures::wire_table))]
+fn keys_of(table: u8) -> &'static [&'static [u8]]
+    ensures { texts result.now ≡ keys (table_of table) }
 {
-    if row == 0 {
-        return put(&FILE_FORMAT, out);
+    match table {
+        // Outside all blocks; the order of the blocks is judged by the reader.
+        TABLE_TOP => &[
+            &FILE_FORMAT,
+            &DRAWING_FORMAT,
+            &SYMBOL_DEFINE,
+            &ELEMENT_BLOCK,
+        ],
+        // FILE_FORMAT of the first volume: its record and the volume's behind it.
+        TABLE_FILE => &[
+            &RANGE, &ALL_LINE, &THIS_LINE, &ALL_ELE, &THIS_ELE, &NEXT_FILE, &DATE, &TIME, &CAD,
+            &OS, &HARD, &VER, &CORP, &MAKE, &TEL, &NAME,
+        ],
+        // `range`.
+        TABLE_RANGE => &[&BASE, &ARC, &ELEC, &AIR, &PIPE, &SYM],
+        // `base=001:{`.
+        TABLE_BASE => &[&B_SYM],
+        // `elec=001:{`.
+        TABLE_ELEC => &[&E_SYM, &E_WIRE, &E_CIRNO],
+        // `sym=001:{`.
+        TABLE_SYM => &[&S_BASE, &S_ELEC],
+        // FILE_FORMAT of later volumes.
+        TABLE_LATER => &[&THIS_LINE, &THIS_ELE, &NEXT_FILE, &DATE, &TIME],
+        // DRAWING_FORMAT; its range is arc.
+        TABLE_DRAWING => &[
+            &SIZE,
+            &SCALE,
+            &PROJECT,
+            &DRAWNAME,
+            &DATE,
+            &DRAWER,
+            &FLOOR_HEIGHT,
+            &LAYER_NAME,
+        ],
+        // SYMBOL_DEFINE; its range is S_elec.
+        TABLE_DEFINES => &[&NON, &E_SYMBOL],
+        // E_symbol in SYMBOL_DEFINE; its range is S_elec.
+        TABLE_SYMBOL => &[&NAME, &ELEMENT, &HIDE, &WALL],
+        // ELEMENT.
+        TABLE_ELEMENT => &[&LAYER],
+        // The figures of a layer, and a placed symbol among them.
+        TABLE_LAYER | TABLE_SINGLE_LAYER => &[
+            &LINE,
+            &CIRCLE,
+            &ELLIPSE,
+            &POINT,
+            &SUCCESSIVE,
+            &TEXT,
+            &E_SYMBOL,
+        ],
+        // The figures of a symbol's `element`.
+        TABLE_FIGURES => &[&LINE, &CIRCLE, &ELLIPSE, &POINT, &SUCCESSIVE, &TEXT],
+        // `successive` or `hide`.
+        TABLE_LAYER_POINTS | TABLE_SYMBOL_POINTS => &[&POINT],
+        // `text`.
+        TABLE_LAYER_TEXT | TABLE_SYMBOL_TEXT | TABLE_PLACED_TEXT => &[&TYPE, &CHARACTER],
+        // A placed symbol's block; its range is E_sym.
+        TABLE_PLACED => &[&SYMBOL, &TEXT, &HIGHT, &POS, &CIRCUIT, &SERIAL],
+        // A wire's block; its range is the last two digits of E_wire.
+        TABLE_WIRE => &[
+            &LINE, &CIRCLE, &DIREC, &PIEND, &NUM, &TEXT, &LENGTH, &CIRCUIT, &POWER, &SERIAL,
+        ],
+        // The figures of a layer, and a placed symbol and a wire among them.
+        TABLE_WIRED_LAYER | TABLE_SINGLE_WIRED_LAYER => &[
+            &LINE,
+            &CIRCLE,
+            &ELLIPSE,
+            &POINT,
+            &SUCCESSIVE,
+            &TEXT,
+            &E_SYMBOL,
+            &E_WIRE,
+        ],
+        _ => &[],
     }
-    if row == 1 {
-        return put(&DRAWING_FORMAT, out);
-    }
-    if row == 2 {
-        return put(&SYMBOL_DEFINE, out);
-    }
-    if row == 3 {
-        return put(&ELEMENT_BLOCK, out);
-    }
-    Ok(0)
-}
-
-// FILE_FORMAT of the first volume: its record and the volume's behind it.
-fn file_key(row: u8, out: &mut [u8]) -> Result<usize, NoRoom>
-    ensures { Puts (key_at file_table row) out.old out.new result }
-{
-    if row == 0 {
-        return put(&RANGE, out);
-    }
-    if row == 1 {
-        return put(&ALL_LINE, out);
-    }
-    if row == 2 {
-        return put(&THIS_LINE, out);
-    }
-    if row == 3 {
-        return put(&ALL_ELE, out);
-    }
-    if row == 4 {
-        return put(&THIS_ELE, out);
-    }
-    if row == 5 {
-        return put(&NEXT_FILE, out);
-    }
-    if row == 6 {
-        return put(&DATE, out);
-    }
-    if row == 7 {
-        return put(&TIME, out);
-    }
-    if row == 8 {
-        return put(&CAD, out);
-    }
-    if row == 9 {
-        return put(&OS, out);
-    }
-    if row == 10 {
-        return put(&HARD, out);
-    }
-    if row == 11 {
-        return put(&VER, out);
-    }
-    if row == 12 {
-        return put(&CORP, out);
-    }
-    if row == 13 {
-        return put(&MAKE, out);
-    }
-    if row == 14 {
-        return put(&TEL, out);
-    }
-    if row == 15 {
-        return put(&NAME, out);
-    }
-    Ok(0)
-}
-
-// `range`.
-fn range_key(row: u8, out: &mut [u8]) -> Result<usize, NoRoom>
-    ensures { Puts (key_at range_table row) out.old out.new result }
-{
-    if row == 0 {
-        return put(&BASE, out);
-    }
-    if row == 1 {
-        return put(&ARC, out);
-    }
-    if row == 2 {
-        return put(&ELEC, out);
-    }
-    if row == 3 {
-        return put(&AIR, out);
-    }
-    if row == 4 {
-        return put(&PIPE, out);
-    }
-    if row == 5 {
-        return put(&SYM, out);
-    }
-    Ok(0)
-}
-
-// `base=001:{`.
-fn base_key(row: u8, out: &mut [u8]) -> Result<usize, NoRoom>
-    ensures { Puts (key_at base_table row) out.old out.new result }
-{
-    if row == 0 {
-        return put(&B_SYM, out);
-    }
-    Ok(0)
-}
-
-// `elec=001:{`.
-fn elec_key(row: u8, out: &mut [u8]) -> Result<usize, NoRoom>
-    ensures { Puts (key_at elec_table row) out.old out.new result }
-{
-    if row == 0 {
-        return put(&E_SYM, out);
-    }
-    if row == 1 {
-        return put(&E_WIRE, out);
-    }
-    if row == 2 {
-        return put(&E_CIRNO, out);
-    }
-    Ok(0)
-}
-
-// `sym=001:{`.
-fn sym_key(row: u8, out: &mut [u8]) -> Result<usize, NoRoom>
-    ensures { Puts (key_at sym_table row) out.old out.new result }
-{
-    if row == 0 {
-        return put(&S_BASE, out);
-    }
-    if row == 1 {
-        return put(&S_ELEC, out);
-    }
-    Ok(0)
-}
-
-// FILE_FORMAT of later volumes.
-fn later_key(row: u8, out: &mut [u8]) -> Result<usize, NoRoom>
-    ensures { Puts (key_at later_table row) out.old out.new result }
-{
-    if row == 0 {
-        return put(&THIS_LINE, out);
-    }
-    if row == 1 {
-        return put(&THIS_ELE, out);
-    }
-    if row == 2 {
-        return put(&NEXT_FILE, out);
-    }
-    if row == 3 {
-        return put(&DATE, out);
-    }
-    if row == 4 {
-        return put(&TIME, out);
-    }
-    Ok(0)
-}
-
-// DRAWING_FORMAT; its range is arc.
-fn drawing_key(row: u8, out: &mut [u8]) -> Result<usize, NoRoom>
-    ensures { Puts (key_at drawing_table row) out.old out.new result }
-{
-    if row == 0 {
-        return put(&SIZE, out);
-    }
-    if row == 1 {
-        return put(&SCALE, out);
-    }
-    if row == 2 {
-        return put(&PROJECT, out);
-    }
-    if row == 3 {
-        return put(&DRAWNAME, out);
-    }
-    if row == 4 {
-        return put(&DATE, out);
-    }
-    if row == 5 {
-        return put(&DRAWER, out);
-    }
-    if row == 6 {
-        return put(&FLOOR_HEIGHT, out);
-    }
-    if row == 7 {
-        return put(&LAYER_NAME, out);
-    }
-    Ok(0)
-}
-
-// SYMBOL_DEFINE; its range is S_elec.
-fn defines_key(row: u8, out: &mut [u8]) -> Result<usize, NoRoom>
-    ensures { Puts (key_at defines_table row) out.old out.new result }
-{
-    if row == 0 {
-        return put(&NON, out);
-    }
-    if row == 1 {
-        return put(&E_SYMBOL, out);
-    }
-    Ok(0)
-}
-
-// E_symbol in SYMBOL_DEFINE; its range is S_elec.
-fn symbol_key(row: u8, out: &mut [u8]) -> Result<usize, NoRoom>
-    ensures { Puts (key_at symbol_table row) out.old out.new result }
-{
-    if row == 0 {
-        return put(&NAME, out);
-    }
-    if row == 1 {
-        return put(&ELEMENT, out);
-    }
-    if row == 2 {
-        return put(&HIDE, out);
-    }
-    if row == 3 {
-        return put(&WALL, out);
-    }
-    Ok(0)
-}
-
-// ELEMENT.
-fn element_key(row: u8, out: &mut [u8]) -> Result<usize, NoRoom>
-    ensures { Puts (key_at element_table row) out.old out.new result }
-{
-    if row == 0 {
-        return put(&LAYER, out);
-    }
-    Ok(0)
-}
-
-// The figures of a layer, and a placed symbol among them.
-fn layer_key(row: u8, out: &mut [u8]) -> Result<usize, NoRoom>
-    ensures { Puts (key_at (layer_table false false) row) out.old out.new result }
-{
-    if row == 0 {
-        return put(&LINE, out);
-    }
-    if row == 1 {
-        return put(&CIRCLE, out);
-    }
-    if row == 2 {
-        return put(&ELLIPSE, out);
-    }
-    if row == 3 {
-        return put(&POINT, out);
-    }
-    if row == 4 {
-        return put(&SUCCESSIVE, out);
-    }
-    if row == 5 {
-        return put(&TEXT, out);
-    }
-    if row == 6 {
-        return put(&E_SYMBOL, out);
-    }
-    Ok(0)
-}
-
-// The figures of a symbol's `element`.
-fn figure_key(row: u8, out: &mut [u8]) -> Result<usize, NoRoom>
-    ensures { Puts (key_at figure_table row) out.old out.new result }
-{
-    if row == 0 {
-        return put(&LINE, out);
-    }
-    if row == 1 {
-        return put(&CIRCLE, out);
-    }
-    if row == 2 {
-        return put(&ELLIPSE, out);
-    }
-    if row == 3 {
-        return put(&POINT, out);
-    }
-    if row == 4 {
-        return put(&SUCCESSIVE, out);
-    }
-    if row == 5 {
-        return put(&TEXT, out);
-    }
-    Ok(0)
-}
-
-// `successive` or `hide`.
-fn point_key(row: u8, out: &mut [u8]) -> Result<usize, NoRoom>
-    ensures { Puts (key_at (point_table true) row) out.old out.new result }
-{
-    if row == 0 {
-        return put(&POINT, out);
-    }
-    Ok(0)
-}
-
-// `text`.
-fn lettering_key(row: u8, out: &mut [u8]) -> Result<usize, NoRoom>
-    ensures { Puts (key_at (text_table true 4 12) row) out.old out.new result }
-{
-    if row == 0 {
-        return put(&TYPE, out);
-    }
-    if row == 1 {
-        return put(&CHARACTER, out);
-    }
-    Ok(0)
-}
-
-// A placed symbol's block; its range is E_sym.
-fn placed_key(row: u8, out: &mut [u8]) -> Result<usize, NoRoom>
-    ensures { Puts (key_at placed_table row) out.old out.new result }
-{
-    if row == 0 {
-        return put(&SYMBOL, out);
-    }
-    if row == 1 {
-        return put(&TEXT, out);
-    }
-    if row == 2 {
-        return put(&HIGHT, out);
-    }
-    if row == 3 {
-        return put(&POS, out);
-    }
-    if row == 4 {
-        return put(&CIRCUIT, out);
-    }
-    if row == 5 {
-        return put(&SERIAL, out);
-    }
-    Ok(0)
-}
-
-// A wire's block; its range is the last two digits of E_wire.
-fn wire_key(row: u8, out: &mut [u8]) -> Result<usize, NoRoom>
-    ensures { Puts (key_at wire_table row) out.old out.new result }
-{
-    if row == 0 {
-        return put(&LINE, out);
-    }
-    if row == 1 {
-        return put(&CIRCLE, out);
-    }
-    if row == 2 {
-        return put(&DIREC, out);
-    }
-    if row == 3 {
-        return put(&PIEND, out);
-    }
-    if row == 4 {
-        return put(&NUM, out);
-    }
-    if row == 5 {
-        return put(&TEXT, out);
-    }
-    if row == 6 {
-        return put(&LENGTH, out);
-    }
-    if row == 7 {
-        return put(&CIRCUIT, out);
-    }
-    if row == 8 {
-        return put(&POWER, out);
-    }
-    if row == 9 {
-        return put(&SERIAL, out);
-    }
-    Ok(0)
-}
-
-// The figures of a layer, and a placed symbol and a wire among them.
-fn wired_layer_key(row: u8, out: &mut [u8]) -> Result<usize, NoRoom>
-    ensures { Puts (key_at (layer_table false true) row) out.old out.new result }
-{
-    if row == 0 {
-        return put(&LINE, out);
-    }
-    if row == 1 {
-        return put(&CIRCLE, out);
-    }
-    if row == 2 {
-        return put(&ELLIPSE, out);
-    }
-    if row == 3 {
-        return put(&POINT, out);
-    }
-    if row == 4 {
-        return put(&SUCCESSIVE, out);
-    }
-    if row == 5 {
-        return put(&TEXT, out);
-    }
-    if row == 6 {
-        return put(&E_SYMBOL, out);
-    }
-    if row == 7 {
-        return put(&E_WIRE, out);
-    }
-    Ok(0)
 }
 
 // The key of a table's row at the front of out, where it fits; what is no row has no key.
 pub fn put_key(table: u8, row: u8, out: &mut [u8]) -> Result<usize, NoRoom>
     ensures { Puts (key_at (table_of table) row) out.old out.new result }
 {
-    if table == TABLE_TOP {
-        return top_key(row, out);
+    match keys_of(table).get(row as usize) {
+        Some(&key) => put(key, out),
+        None => Ok(0),
     }
-    if table == TABLE_FILE {
-        return file_key(row, out);
-    }
-    if table == TABLE_RANGE {
-        return range_key(row, out);
-    }
-    if table == TABLE_BASE {
-        return base_key(row, out);
-    }
-    if table == TABLE_ELEC {
-        return elec_key(row, out);
-    }
-    if table == TABLE_SYM {
-        return sym_key(row, out);
-    }
-    if table == TABLE_LATER {
-        return later_key(row, out);
-    }
-    if table == TABLE_DRAWING {
-        return drawing_key(row, out);
-    }
-    if table == TABLE_DEFINES {
-        return defines_key(row, out);
-    }
-    if table == TABLE_SYMBOL {
-        return symbol_key(row, out);
-    }
-    if table == TABLE_ELEMENT {
-        return element_key(row, out);
-    }
-    if table == TABLE_LAYER {
-        return layer_key(row, out);
-    }
-    if table == TABLE_SINGLE_LAYER {
-        return layer_key(row, out);
-    }
-    if table == TABLE_FIGURES {
-        return figure_key(row, out);
-    }
-    if table == TABLE_LAYER_POINTS {
-        return point_key(row, out);
-    }
-    if table == TABLE_SYMBOL_POINTS {
-        return point_key(row, out);
-    }
-    if table == TABLE_LAYER_TEXT {
-        return lettering_key(row, out);
-    }
-    if table == TABLE_SYMBOL_TEXT {
-        return lettering_key(row, out);
-    }
-    if table == TABLE_PLACED {
-        return placed_key(row, out);
-    }
-    if table == TABLE_PLACED_TEXT {
-        return lettering_key(row, out);
-    }
-    if table == TABLE_WIRE {
-        return wire_key(row, out);
-    }
-    if table == TABLE_WIRED_LAYER {
-        return wired_layer_key(row, out);
-    }
-    if table == TABLE_SINGLE_WIRED_LAYER {
-        return wired_layer_key(row, out);
-    }
-    Ok(0)
 }
