@@ -271,11 +271,11 @@ unfolding parts_of
 parts-long zero c = refl
 parts-long (suc n) c = ap suc (parts-long n (c / 100))
 
-pub done-not : {P : Type 0} (n : ℕ) → (Ok tt) ≡ Err n → P
+pub done-not : {P : Type 0} (n : ℕ) → ◌≡◌ {A = Result ⊤ ℕ} (Ok tt) (Err n) → P
 done-not n e = absurd (let z : ◌≡◌ {A = ℕ} 0 1 = cc in omega arith)
 
 module _ (ac : Across) (t t₁ : List ℤ) (p n : ℕ) (a : Result ⊤ ℕ) where
-  pub across-by : (g : Got (List Num)) (b : Bool) → On (λ v. length v ≡ n) g → Puts g (λ v. sets t p (plainly v)) t₁ a → a ≡ (Ok tt) → (m : ℕ) → n ≡ suc m → covered ac m ≡ true → p + n ≤ length t → agree_from ac p t₁ ≡ b
+  pub across-by : (g : Got (List Num)) (b : Bool) → On (λ v. length v ≡ n) g → Puts g (λ v. sets t p (plainly v)) t₁ a → a ≡ Ok tt → (m : ℕ) → n ≡ suc m → covered ac m ≡ true → p + n ≤ length t → agree_from ac p t₁ ≡ b
       → Puts (map_g nums (keep 11 (agree ac) g)) (λ v. sets t p (numbers v)) t₁ (cond b (Ok tt) (Err 11))
   across-by (bad k) b s h d m z l r e = done-not k (sym d ∙ h.eq)
   across-by (got v) b s h d m z l r e = go b (sym (agree-is v t p (omega (arith, s, r)) ac m (s ∙ z) l) ∙ ap (agree_from ac p) (sym h.filled) ∙ e)

@@ -105,7 +105,7 @@ plainly-more : (v : List Num) → plainly (v ++ no_turn ∷ []) ≡ plainly v ++
 plainly-more [] = refl
 plainly-more (n ∷ v) = ap (λ (zs : List ℤ). n.value ∷ zs) (plainly-more v)
 
-turn-put : (g : Got (List Num)) (t t₁ : List ℤ) (p : ℕ) (a : Result ⊤ ℕ) → On (λ v. length v ≡ 6) g → Puts g (λ v. sets t p (plainly v)) t₁ a → a ≡ (Ok tt)
+turn-put : (g : Got (List Num)) (t t₁ : List ℤ) (p : ℕ) (a : Result ⊤ ℕ) → On (λ v. length v ≡ 6) g → Puts g (λ v. sets t p (plainly v)) t₁ a → a ≡ Ok tt
     → Puts (map_g nums (map_g (λ v. v ++ no_turn ∷ []) g)) (λ v. sets t p (numbers v)) (set t₁ (p + 6) (negsuc 0)) (Ok tt)
 turn-put (bad n) t t₁ p a l h d = done-not n (sym d ∙ h.eq)
 turn-put (got v) t t₁ p a l h d =
@@ -135,12 +135,12 @@ module _ (k : Known) (row : Row) (c : List ℕ) (f : Forms) (e : f ≡ forms_for
       go (bad m) x true = record { eq = x.eq; filled = tt }
       go (bad m) x false = record { eq = x.eq; filled = tt }
 
-  pub values_turnless : f.turnless ≡ true → a ≡ (Ok tt) → Puts (read_kind k (values_of row) 0 c) (λ v. sets t p (numbers v)) (set t₁ (p + 6) (negsuc 0)) (Ok tt)
+  pub values_turnless : f.turnless ≡ true → a ≡ Ok tt → Puts (read_kind k (values_of row) 0 c) (λ v. sets t p (numbers v)) (set t₁ (p + 6) (negsuc 0)) (Ok tt)
   values_turnless z d =
       let six : suc f.more ≡ 6 = ap suc (six-values row f (length (split 44 c)) e z) in
       rw (is-judged, z) (turn-put (read_all k (parts_in f) (split 44 c)) t t₁ p a (subst (λ (n : ℕ). On (λ v. length v ≡ n) (read_all k (parts_in f) (split 44 c))) six all-long) h d)
 
-  pub values-told : (b : Bool) → f.turnless ≡ false → a ≡ (Ok tt) → settled (values_of row) ≡ true → p + columns (values_of row) ≤ length t → agree_from (across_of f.across) p t₁ ≡ b
+  pub values-told : (b : Bool) → f.turnless ≡ false → a ≡ Ok tt → settled (values_of row) ≡ true → p + columns (values_of row) ≤ length t → agree_from (across_of f.across) p t₁ ≡ b
       → Puts (read_kind k (values_of row) 0 c) (λ v. sets t p (numbers v)) t₁ (cond b (Ok tt) (Err 11))
   values-told b z d s l x =
       let room = forms-room row f (length (split 44 c)) e p (length t) l in

@@ -86,7 +86,7 @@ module _ (g : Got Value) (r : Rule) (dump : ℕ) (t t₁ : List ℤ) (a : Result
       go (got v) h = done-not n (sym h.eq ∙ e)
       go (bad m) h = record { eq = h.eq; filled = tt }
 
-  pub line-done : (t₂ : List ℤ) → Given g → a ≡ (Ok tt) → t₂ ≡ put_state r.state (pos 2) t₁ → Puts g (λ v. put_line r dump v t) t₂ (Ok tt)
+  pub line-done : (t₂ : List ℤ) → Given g → a ≡ Ok tt → t₂ ≡ put_state r.state (pos 2) t₁ → Puts g (λ v. put_line r dump v t) t₂ (Ok tt)
   line-done t₂ s d e = go g h s
     where
       go : (g : Got Value) → Puts g (λ v. sets t (place_of r.place dump) (numbers v)) t₁ a → Given g → Puts g (λ v. put_line r dump v t) t₂ (Ok tt)
@@ -135,19 +135,19 @@ module _ (k : Known) (j : ℕ) (r : Rule) (dump : ℕ) (t t₁ : List ℤ) (s : 
 
 -- ── what is done ──
 module _ (j : ℕ) (r : Rule) (dump : ℕ) (t t₁ : List ℤ) (a : Result ⊤ ℕ) where
-  entry-put : (g : Got Value) (full : Bool) → Puts (map_g (entry j) g) (λ b. put_line r dump (value_of b) t) t₁ a → a ≡ (Ok tt)
+  entry-put : (g : Got Value) (full : Bool) → Puts (map_g (entry j) g) (λ b. put_line r dump (value_of b) t) t₁ a → a ≡ Ok tt
       → Acts (λ _. r) dump t (or_refuse (and_then (map_g (entry j) g) λ b. unless (not full) 11 (got b))) t₁ (cond full (N.Refuse 11) (N.Entry j))
   entry-put (bad m) full h d = done-not m (sym d ∙ h.eq)
   entry-put (got v) true h d = record { eq = refl; entered = tt }
   entry-put (got v) false h d = record { eq = refl; entered = h.filled }
 
-  begin-put : (i : ℕ) (g : Got Value) (full : Bool) → Puts (map_g (begin i j) g) (λ b. put_line r dump (value_of b) t) t₁ a → a ≡ (Ok tt)
+  begin-put : (i : ℕ) (g : Got Value) (full : Bool) → Puts (map_g (begin i j) g) (λ b. put_line r dump (value_of b) t) t₁ a → a ≡ Ok tt
       → Acts (λ _. r) dump t (or_refuse (and_then (map_g (begin i j) g) λ b. unless (not full) 11 (got b))) t₁ (cond full (N.Refuse 11) (N.Begin (record { block = i; row = j })))
   begin-put i (bad m) full h d = done-not m (sym d ∙ h.eq)
   begin-put i (got v) true h d = record { eq = refl; entered = tt }
   begin-put i (got v) false h d = record { eq = refl; entered = h.filled }
 
-  pub line-entered : (k : Known) (s : List ℕ) (x : Placed) (full : Bool) → Puts (read_shape k j r (shape_in s x)) (λ b. put_line r dump (value_of b) t) t₁ a → a ≡ (Ok tt)
+  pub line-entered : (k : Known) (s : List ℕ) (x : Placed) (full : Bool) → Puts (read_shape k j r (shape_in s x)) (λ b. put_line r dump (value_of b) t) t₁ a → a ≡ Ok tt
       → Acts (λ _. r) dump t (or_refuse (and_then (read_shape k j r (shape_in s x)) λ b. unless (not full) 11 (got b))) t₁ (next_for full j (inner_of r.holds) (sort_of x))
   line-entered k s P.Opener full h d = begin-put (inner_of r.holds) (got (nums [])) full h d
   line-entered k s P.NoContent full h d = entry-put (got empty) full h d
@@ -159,7 +159,7 @@ module _ (j : ℕ) (r : Rule) (dump : ℕ) (t t₁ : List ℤ) (a : Result ⊤ �
   line_refused (got b) f w n h e = done-not n (sym h.eq ∙ e)
   line_refused (bad m) f w n h e = let q : m ≡ n = refused m n (sym h.eq ∙ e) in rw q (record { eq = refl; entered = tt })
     where
-      refused : (m n : ℕ) → Err m ≡ Err n → m ≡ n
+      refused : (m n : ℕ) → ◌≡◌ {A = Result ⊤ ℕ} (Err m) (Err n) → m ≡ n
       refused m n e = cc
 
 -- a row that may stand more than once

@@ -73,7 +73,7 @@ module _ (c : List ℕ) (i e : ℕ) where
 -- what is left to be asked from a place on: the pieces from there, none behind the end
 pub record LeftFrom (p : ℕ → Bool) (c : List ℕ) (i : ℕ) : Type 0 where
   pub pieces : i ≤ length c → all p (partners_in c) ≡ all p (numbers_of (split 44 (drop i c)))
-  pub None : length c < i → all p (partners_in c) ≡ true
+  pub none : length c < i → all p (partners_in c) ≡ true
 
 module _ (p : ℕ → Bool) (c : List ℕ) where
   -- behind the first comma
@@ -84,7 +84,7 @@ module _ (p : ℕ → Bool) (c : List ℕ) where
         let z : suc (length (up_to 44 c)) ≡ e + 1 = omega (arith, q) in
         ap (λ (ps : List (List ℕ)). all p (numbers_of (drop 1 ps))) (split-more 44 c l)
         ∙ ap (λ (d : List ℕ). all p (numbers_of (split 44 d))) (past-drop 44 c l ∙ ap (λ (k : ℕ). drop k c) z);
-    None = λ h. ap (λ (ps : List (List ℕ)). all p (numbers_of (drop 1 ps))) (split-last 44 c (omega (arith, h, q)));
+    none = λ h. ap (λ (ps : List (List ℕ)). all p (numbers_of (drop 1 ps))) (split-last 44 c (omega (arith, h, q)));
   }
 
   module _ (i e : ℕ) (h : i ≤ length c) (q : e ≡ i + length (up_to 44 (drop i c))) (left : LeftFrom p c i) where
@@ -122,7 +122,7 @@ module _ (p : ℕ → Bool) (c : List ℕ) where
       pub left-next : b ≡ true → LeftFrom p c (e + 1)
       left-next t = record {
         pieces = λ k. more (omega (arith, k)) ∙ ap (λ (a : Bool). a && all p (numbers_of (split 44 (drop (e + 1) c)))) (sym r ∙ t);
-        None = λ k. last (omega (arith, k)) ∙ ap (λ (a : Bool). a && true) (sym r ∙ t);
+        none = λ k. last (omega (arith, k)) ∙ ap (λ (a : Bool). a && true) (sym r ∙ t);
       }
 
       pub left_not : b ≡ false → all p (partners_in c) ≡ false

@@ -187,7 +187,7 @@ put_rest b s after =
     ap (λ (k : ℕ). b ∷ (after ++ drop k s)) e ∙ ap (λ (l : List ℕ). b ∷ (after ++ l)) (drop-length s) ∙ ap (λ (l : List ℕ). b ∷ l) (append-nil after)
 
 module _ (x : ℕ) (text after : List ℕ) (r : Result ℕ NoRoom) where
-  pub behind-full : (before : List ℕ) → (length before ≡ 0 → ⊥) → Puts text (take (length before - 1) (drop 1 before)) after r → r ≡ (Err no_room)
+  pub behind-full : (before : List ℕ) → (length before ≡ 0 → ⊥) → Puts text (take (length before - 1) (drop 1 before)) after r → r ≡ Err no_room
       → Puts (x ∷ text) before (put_mid 1 (length before - 1) before after) (Err no_room)
   behind-full [] h p e = absurd (h refl)
   behind-full (b ∷ s) h p e =
@@ -216,7 +216,7 @@ module _ (a b before after : List ℕ) (r : Result ℕ NoRoom) (h : length a ≤
   part-back =
       ap (put_mid (length a) (length before - length a) before) (sym (rest_all (length a) before)) ∙ put_same (length a) (length before - length a) before
 
-  pub both-full : r ≡ (Err no_room) → Puts (a ++ b) before (put_mid (length a) (length before - length a) before after) (Err no_room)
+  pub both-full : r ≡ Err no_room → Puts (a ++ b) before (put_mid (length a) (length before - length a) before after) (Err no_room)
   both-full e =
       let w = was-full b (drop (length a) before) after (rw e at rest_put) in
       rw (w.1, part-back) (full (a ++ b) before (length a + length b) (length-append a b) (omega (arith, w.0, length-drop (length a) before)))

@@ -125,7 +125,7 @@ module _ (spool body : List ℕ) (start from : ℕ) (ns before : List ℕ) where
       }
 
       -- there is no room for this row, and so none for all
-      pub keys-full : r ≡ (Err no_room) → (after : List ℕ) → PrintsKeys spool body start from ns before after (Err no_room)
+      pub keys-full : r ≡ Err no_room → (after : List ℕ) → PrintsKeys spool body start from ns before after (Err no_room)
       keys-full e after k t w =
           let full = front-full (line_bytes (keys_text t (j - 2))) n before out there (x.front k t w) (line_bytes (t j)) mid r (p k t x.low lt w) e in
           let here : length (line_bytes (keys_text t (j + 1 - 2))) ≡ length (line_bytes (keys_text t (j - 2)) ++ line_bytes (t j)) = ap length (ap line_bytes (next-is t) ∙ bytes-append (keys_text t (j - 2)) (t j)) in

@@ -224,7 +224,7 @@ module _ (spool : List ℕ) (b : ℕ) (ns : List ℕ) where
               by true e = g.1 n k h (inner_of q.holds) z (inner_below b p (part-table b p n l) j m) e
               by false e = g.0 e
 
-    pub slot-full : w ≡ (Err no_room) → PrintsSlot spool depth b table j ns before x (Err no_room)
+    pub slot-full : w ≡ Err no_room → PrintsSlot spool depth b table j ns before x (Err no_room)
     slot-full e n k h p z l t m =
         let r : List ℕ = row_bytes k (q n k h p z l t m) (o n k h p z l t m) in
         subst (λ (u : List ℕ). Prints u before x (Err no_room)) (text n k h p z l t m)

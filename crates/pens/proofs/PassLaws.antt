@@ -257,7 +257,7 @@ module _ (x : List ℕ) (n : ℕ) (before out : List ℕ) (h : n ≤ length out)
         lies = l.lies ∙ ap (λ (u : List ℕ). u ++ (y ++ drop (n + length y) out)) front ∙ ap (λ (u : List ℕ). x ++ (y ++ u)) rest ∙ sym (append_assoc x y (drop (n + m) before));
       }
 
-  pub front-full : r ≡ (Err no_room) → length before < length (x ++ y)
+  pub front-full : r ≡ Err no_room → length before < length (x ++ y)
   front-full e = omega (arith, no_room out n h mid r y p e, length-append x y, z.size, front_long)
 
 pub front-prints : (x : List ℕ) (n : ℕ) (before out : List ℕ) → Front x n before out → Prints x before out (Ok n)
@@ -339,7 +339,7 @@ module _ (spool body : List ℕ) (start from j : ℕ) (before : List ℕ) where
           line k (forms_of f.next z.others) c.behind c.rest z.placed here c.holds
           (subst (λ (fs : List Form). Pass k j fs c.behind c.rest) (forms-next spool body start at c.left c.there f q) (c.goes g))
 
-      pub pass-full : r ≡ (Err no_room) → (after : List ℕ) → PrintsPass spool body start from j before after (Err no_room)
+      pub pass-full : r ≡ Err no_room → (after : List ℕ) → PrintsPass spool body start from j before after (Err no_room)
       pass-full e after k ls t a p =
           let c = w.come k ls t a p in
           let x = lined k ls t a p in

@@ -23,7 +23,7 @@ use Rattle.leaves.specs.NoRoom.{no_room}
 full-bytes : {P : Type 0} {n : ℕ} → (Err no_room) ≡ Ok n → P
 full-bytes e = absurd (let z : ◌≡◌ {A = ℕ} 0 1 = cc in omega arith)
 
-same_bytes : (n m : ℕ) → Ok n ≡ Ok m → n ≡ m
+same_bytes : (n m : ℕ) → ◌≡◌ {A = Result ℕ NoRoom} (Ok n) (Ok m) → n ≡ m
 same_bytes n m e = cc
 
 -- n bytes were written at a place, and they are x
@@ -81,7 +81,7 @@ module _ (out : List ℕ) (a : ℕ) (h : a ≤ length out) (w : List ℕ) (r : R
             }
         go false f z = full-bytes (sym z)
 
-    pub no_room : r ≡ (Err no_room) → length out < a + length x
+    pub no_room : r ≡ Err no_room → length out < a + length x
     no_room e = go (leb (length x) (length rest)) refl (sym e ∙ i.answer)
       where
         go : (t : Bool) → leb (length x) (length rest) ≡ t → (Err no_room) ≡ cond t (Ok (length x)) (Err no_room) → length out < a + length x
@@ -268,7 +268,7 @@ module _ (out : List ℕ) (a : ℕ) (h : a ≤ length out) (w : List ℕ) (r : R
       pub last-lays : (y : List ℕ) → Prints y second w₂ r₂ → (m : ℕ) → r₂ ≡ Ok m → Lays y m (a + n) turned last
       last-lays y j m f = lays turned (a + n) turned-room w₂ r₂ y j m f
 
-      pub last_none : (y : List ℕ) → Prints y second w₂ r₂ → r₂ ≡ (Err no_room) → length turned < a + n + length y
+      pub last_none : (y : List ℕ) → Prints y second w₂ r₂ → r₂ ≡ Err no_room → length turned < a + n + length y
       last_none y j f = no_room turned (a + n) turned-room w₂ r₂ y j f
 
 -- ── the pen within the output, step by step ──

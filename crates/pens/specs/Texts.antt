@@ -21,13 +21,13 @@ laid x at out = take at out ++ (x ++ drop (at + length x) out)
 -- What a writer does with the text x: it is laid there and the pen goes on, or there is no room for it.
 pub record Draws (x : List ℕ) (at : ℕ) (next : Pen) (before after : List ℕ) (r : Result Pen NoRoom) : Type 0 where
   pub drawn : at + length x ≤ length before → (r ≡ Ok next) × (after ≡ laid x at before)
-  pub full : length before < at + length x → r ≡ (Err no_room)
+  pub full : length before < at + length x → r ≡ Err no_room
 
 -- The text x comes at `start`, before what stands from there to the pen's place, and y behind that.
 pub record Inserts (x y : List ℕ) (start at : ℕ) (next : Pen) (before after : List ℕ) (r : Result Pen NoRoom) : Type 0 where
   pub drawn : at + length x + length y ≤ length before
       → (r ≡ Ok next) × (after ≡ take start before ++ (x ++ (take (at - start) (drop start before) ++ (y ++ drop (at + length x + length y) before))))
-  pub full : length before < at + length x + length y → r ≡ (Err no_room)
+  pub full : length before < at + length x + length y → r ≡ Err no_room
 
 -- in any case the pen stays within the output
 pub record Safe (p : Pen) (out : List ℕ) : Type 0 where

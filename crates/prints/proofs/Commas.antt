@@ -53,23 +53,23 @@ module _ (c before after : List ℕ) (at w : Result ℕ NoRoom) where
     reading-stands e h = rw (reading-not o e) h
 
 -- ── joined by commas ──
-abbrev Some : List (List ℕ) → Type 0
-Some ps = (p : List ℕ) × (rest : List (List ℕ)) × (ps ≡ p ∷ rest)
+abbrev Parted : List (List ℕ) → Type 0
+Parted ps = (p : List ℕ) × (rest : List (List ℕ)) × (ps ≡ p ∷ rest)
 
-head-some : (b : ℕ) (ps : List (List ℕ)) → Some (head_onto b ps)
+head-some : (b : ℕ) (ps : List (List ℕ)) → Parted (head_onto b ps)
 head-some b [] = (b ∷ [], [], refl)
 head-some b (p ∷ ps) = (b ∷ p, ps, refl)
 
-split-some : (c : ℕ) (s : List ℕ) → Some (split c s)
+split-some : (c : ℕ) (s : List ℕ) → Parted (split c s)
 split-some c [] = ([], [], refl)
 split-some c (b ∷ s) = go (eqb b c)
   where
-    go : (t : Bool) → Some (cond t ([] ∷ split c s) (head_onto b (split c s)))
+    go : (t : Bool) → Parted (cond t ([] ∷ split c s) (head_onto b (split c s)))
     go true = ([], split c s, refl)
     go false = head-some b (split c s)
 
 module _ (forms : ℕ) (alike : Bool) where
-  join_more : (t : List ℕ) (ps : List (List ℕ)) → Some ps → join 44 (t ∷ piece_texts forms alike ps) ≡ (t ++ 44 ∷ []) ++ join 44 (piece_texts forms alike ps)
+  join_more : (t : List ℕ) (ps : List (List ℕ)) → Parted ps → join 44 (t ∷ piece_texts forms alike ps) ≡ (t ++ 44 ∷ []) ++ join 44 (piece_texts forms alike ps)
   join_more t ps (p, rest, e) =
       ap (λ (q : List (List ℕ)). join 44 (t ∷ piece_texts forms alike q)) e
       ∙ sym (append_assoc t (44 ∷ []) (join 44 (piece_texts forms alike (p ∷ rest))))

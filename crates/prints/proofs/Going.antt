@@ -20,7 +20,7 @@ use Rattle.leaves.specs.NoRoom.{no_room}
 full-bytes : {P : Type 0} {n : ℕ} → (Err no_room) ≡ Ok n → P
 full-bytes e = absurd (let z : ◌≡◌ {A = ℕ} 0 1 = cc in omega arith)
 
-same_place : (n m : ℕ) → Ok n ≡ Ok m → n ≡ m
+same_place : (n m : ℕ) → ◌≡◌ {A = Result ℕ NoRoom} (Ok n) (Ok m) → n ≡ m
 same_place n m e = cc
 
 -- ── a text with all or nothing of it written ──
@@ -36,7 +36,7 @@ module _ (text before after : List ℕ) (r : Result ℕ NoRoom) (p : Puts text b
       kept false h = refl
 
 -- ── where there is no room ──
-pub none_left : (text before : List ℕ) (at : Result ℕ NoRoom) → at ≡ (Err no_room) → Writes text at before before (Err no_room)
+pub none_left : (text before : List ℕ) (at : Result ℕ NoRoom) → at ≡ Err no_room → Writes text at before before (Err no_room)
 none_left text before at e = rw e (record { answer = refl; memory = λ n z. full-bytes z; long = refl })
 
 pub beyond : (text before : List ℕ) (at : Result ℕ NoRoom) (n : ℕ) → at ≡ Ok n → length before < n → Writes text at before before (Err no_room)
@@ -86,7 +86,7 @@ module _ (text before after : List ℕ) (at r : Result ℕ NoRoom) (n : ℕ) (e 
   there : Writes text (Ok n) before (put_mid n (length before - n) before after) (shift n r)
   there = placed text before after n r h p
 
-  pub placed-full : r ≡ (Err no_room) → Writes text at before (put_mid n (length before - n) before after) (Err no_room)
+  pub placed-full : r ≡ Err no_room → Writes text at before (put_mid n (length before - n) before after) (Err no_room)
   placed-full f = rw e (rw f at there)
 
   pub placed-bytes : (m : ℕ) → r ≡ Ok m → Writes text at before (put_mid n (length before - n) before after) (Ok (n + m))

@@ -49,8 +49,8 @@ module _ {X : Type 0} (g : List ℤ → List X) (quiet : (r : List ℤ) → is_o
   pub record Tells (rs : List (List ℤ)) (xs : List X) : Type 0 where
     pub are : shown_in rs ≡ xs
 
-  None : Tells [] []
-  None = record { are = refl }
+  none : Tells [] []
+  none = record { are = refl }
 
   behind : {a b : List (List ℤ)} {m n : List X} → Tells a m → Tells b n → Tells (a ++ b) (m ++ n)
   behind {a} {b} p q = record { are = shown-append a b ∙ ap₂ ◌++◌ p.are q.are }
@@ -61,29 +61,29 @@ module _ {X : Type 0} (g : List ℤ → List X) (quiet : (r : List ℤ) → is_o
   -- ── records outside layers ──
   header-none : (k : ℕ) (v : Contents) → Tells (file_records true k v) []
   unfolding file_table range_table base_table elec_table sym_table
-  header-none k v = other refl (other refl None)
+  header-none k v = other refl (other refl none)
 
   later-none : (k : ℕ) (v : Contents) → Tells (file_records false k v) []
   unfolding later_table
-  later-none k v = other refl None
+  later-none k v = other refl none
 
   drawing-none : (s : Set) (rs : List (List ℤ)) → Tells rs [] → Tells (drawing_record s.drawing ∷ rs) []
   unfolding drawing_table
   drawing-none s rs p = other refl p
 
   layers-none : (n : ℕ) (ls : List Layer) → Tells (layer_records n ls) []
-  layers-none n [] = None
+  layers-none n [] = none
   layers-none n (l ∷ ls) = other refl (layers-none (suc n) ls)
 
   points_none : (kind owner volume : ℕ) (ps : List Point) → is_other kind ≡ true → Tells (point_records kind owner volume ps) []
-  points_none kind owner volume [] e = None
+  points_none kind owner volume [] e = none
   points_none kind owner volume (p ∷ ps) e =
       other (ap is_other (kind-slot (rule_at (point_table true) 0) (Some (nums p.values)) (start kind owner volume p.line)) ∙ e)
       (points_none kind owner volume ps e)
 
   line-none : (w : View) (more owner volume n j : ℕ) (v : List Num) → is_other (10 + more + j) ≡ true → Tells (plain_record w more owner volume n j v ∷ []) []
   line-none w more owner volume n j v e =
-      other (ap is_other (kind-slot (rule_at w.table j) (Some (nums v)) (start (10 + more + j) owner volume n)) ∙ e) None
+      other (ap is_other (kind-slot (rule_at w.table j) (Some (nums v)) (start (10 + more + j) owner volume n)) ∙ e) none
 
   -- ── symbols ──
   symbol-line : (owner volume n j : ℕ) (v : List Num) → j < 6 → Tells (line_record plain_view 20 owner volume n j v ∷ []) []
@@ -95,13 +95,13 @@ module _ {X : Type 0} (g : List ℤ → List X) (quiet : (r : List ℤ) → is_o
   unfolding text_table
   shape-none owner (plain n j v) i = symbol-line owner 1 n j v i
   shape-none owner (chain n ps) i = other refl (points_none 37 owner 1 ps refl)
-  shape-none owner (lettering n s) i = other refl None
+  shape-none owner (lettering n s) i = other refl none
   shape-none owner (placed n h) i = absurd i
   shape-none owner (wired n w) i = absurd i
   shape-none owner (passed n) i = absurd i
 
   shapes-none : (owner : ℕ) (fs : List Figure) → Each (FitFigure AnyText false) fs → Tells (flat (map (figure_records plain_view 20 owner 1) fs)) []
-  shapes-none owner [] i = None
+  shapes-none owner [] i = none
   shapes-none owner (f ∷ fs) i = behind (shape-none owner f i.0) (shapes-none owner fs i.1)
 
   inner-none : (n : ℕ) (y : Symbol) → FitSymbol AnyText y → Tells (inner_records n y) []
@@ -112,7 +112,7 @@ module _ {X : Type 0} (g : List ℤ → List X) (quiet : (r : List ℤ) → is_o
 
   symbols-none : (n : ℕ) (ys : List Symbol) → Each (FitSymbol AnyText) ys → Tells (symbol_records n ys) []
   unfolding symbol_table
-  symbols-none n [] i = None
+  symbols-none n [] i = none
   symbols-none n (y ∷ ys) i =
       other refl (behind (inner-none n y i.0) (symbols-none (suc n) ys i.1))
 
@@ -155,14 +155,14 @@ module _ {X : Type 0} (g : List ℤ → List X) (quiet : (r : List ℤ) → is_o
       unfolding text_table
       figure-shown owner volume (plain n j v) f i = layer-line owner volume n j v f
       figure-shown owner volume (chain n ps) f i = other refl (points_none 17 owner volume ps refl)
-      figure-shown owner volume (lettering n o) f i = other refl None
+      figure-shown owner volume (lettering n o) f i = other refl none
       figure-shown owner volume (placed n h) f i = record { are = append-nil (g (placed_record view 0 owner volume n h)) ∙ is.symbols owner volume n h i }
       figure-shown owner volume (wired n w) f i = is.wires owner volume n w i
       figure-shown owner volume (passed n) f i = is.skipped owner volume n
 
       figures-shown : (owner volume : ℕ) (fs : List Figure) → Each (FitFigure AnyText true) fs → Each (SoundFigure c (wire_range s)) fs
           → Tells (flat (map (figure_records view 0 owner volume) fs)) (shown_of fs)
-      figures-shown owner volume [] f i = None
+      figures-shown owner volume [] f i = none
       figures-shown owner volume (x ∷ fs) f i =
           behind (figure-shown owner volume x f.0 i.0) (figures-shown owner volume fs f.1 i.1)
 
@@ -171,7 +171,7 @@ module _ {X : Type 0} (g : List ℤ → List X) (quiet : (r : List ℤ) → is_o
 
       blocks-shown : (k : ℕ) (us : List LayerBlock) → Each (FitBlock AnyText) us → Each (SoundBlock c (wire_range s)) us
           → Tells (flat (map (block_records view k) us)) (shown_of (figures_of us))
-      blocks-shown k [] f i = None
+      blocks-shown k [] f i = none
       blocks-shown k (u ∷ us) f i =
           all_of u.figures (figures_of us) (behind (figures-shown u.layer k u.figures f.0 i.0) (blocks-shown k us f.1 i.1))
 
@@ -180,7 +180,7 @@ module _ {X : Type 0} (g : List ℤ → List X) (quiet : (r : List ℤ) → is_o
 
       later-shown : (k : ℕ) (vs : List Contents) → Each (FitContents AnyText false) vs → Each (SoundContents c (wire_range s)) vs
           → Tells (later_records view k vs) (shown_of (figures_of_volumes vs))
-      later-shown k [] f i = None
+      later-shown k [] f i = none
       later-shown k (v ∷ vs) f i =
           all_of (figures_of v.blocks) (figures_of_volumes vs)
           (behind (behind (later-none k v) (blocks-shown k v.blocks f.0.1 i.0)) (later-shown (suc k) vs f.1 i.1))
@@ -190,7 +190,7 @@ module _ {X : Type 0} (g : List ℤ → List X) (quiet : (r : List ℤ) → is_o
       set-shown f i = go s.volumes f.2 i
         where
           go : (vs : List Contents) → FitVolumes AnyText vs → Each (SoundContents c (wire_range s)) vs → Tells (records_from c s vs) (shown_of (figures_of_volumes vs))
-          go [] x y = None
+          go [] x y = none
           go (v ∷ vs) x y =
               all_of (figures_of v.blocks) (figures_of_volumes vs)
               (behind

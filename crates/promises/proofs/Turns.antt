@@ -173,8 +173,8 @@ module _ (spool : List ℕ) where
   record All (rs : List (List ℤ)) : Type 0 where
     are : AtTheirLines spool rs
 
-  None : All []
-  None = record { are = tt }
+  none : All []
+  none = record { are = tt }
 
   one : {r : List ℤ} {rs : List (List ℤ)} → Says_it r → All rs → All (r ∷ rs)
   one p q = record { are = (p, q.are) }
@@ -187,28 +187,28 @@ module _ (spool : List ℕ) where
       go (r ∷ a) h = (h.0, go a h.1)
 
   each_item : {A : Type 0} (P Q : A → Type 0) (f : A → List (List ℤ)) → ((a : A) → P a → Q a → All (f a)) → (s : List A) → Each P s → Each Q s → All (flat (map f s))
-  each_item P Q f e [] g h = None
+  each_item P Q f e [] g h = none
   each_item P Q f e (a ∷ s) g h = behind_it (e a g.0 h.0) (each_item P Q f e s g.1 h.1)
 
   -- ── blocks without figures ──
   header-quiet : (k : ℕ) (v : Contents) → All (file_records true k v)
   unfolding file_table range_table base_table elec_table sym_table
-  header-quiet k v = one tt (one tt None)
+  header-quiet k v = one tt (one tt none)
 
   later-quiet : (k : ℕ) (v : Contents) → All (file_records false k v)
   unfolding later_table
-  later-quiet k v = one tt None
+  later-quiet k v = one tt none
 
   drawing-quiet : (s : Set) (rs : List (List ℤ)) → All rs → All (drawing_record s.drawing ∷ rs)
   unfolding drawing_table
   drawing-quiet s rs p = one tt p
 
   layers-quiet : (n : ℕ) (ls : List Layer) → All (layer_records n ls)
-  layers-quiet n [] = None
+  layers-quiet n [] = none
   layers-quiet n (l ∷ ls) = one tt (layers-quiet (suc n) ls)
 
   points-quiet : (kind owner volume : ℕ) (ps : List Point) → one_line_of kind ≡ another → All (point_records kind owner volume ps)
-  points-quiet kind owner volume [] e = None
+  points-quiet kind owner volume [] e = none
   points-quiet kind owner volume (p ∷ ps) e =
       let q = rule_at (point_table true) 0 in
       let v = Some (nums p.values) in
@@ -234,9 +234,9 @@ module _ (spool : List ℕ) where
 
     shape_says : (owner : ℕ) (f : Figure) → FitFigure AnyText false f → CameFigure (Has vs) false 1 f → All (figure_records plain_view 20 owner 1 f)
     unfolding text_table
-    shape_says owner (plain n j v) g c = one (symbol-line owner n j v g c) None
+    shape_says owner (plain n j v) g c = one (symbol-line owner n j v g c) none
     shape_says owner (chain n ps) g c = one tt (points-quiet 37 owner 1 ps refl)
-    shape_says owner (lettering n s) g c = one tt None
+    shape_says owner (lettering n s) g c = one tt none
     shape_says owner (placed n h) g c = absurd g
     shape_says owner (wired n w) g c = absurd g
     shape_says owner (passed n) g c = absurd g
@@ -249,7 +249,7 @@ module _ (spool : List ℕ) where
 
     symbols_say : (n : ℕ) (ys : List Symbol) → Each (FitSymbol AnyText) ys → Each (CameSymbol (Has vs)) ys → All (symbol_records n ys)
     unfolding symbol_table
-    symbols_say n [] g c = None
+    symbols_say n [] g c = none
     symbols_say n (y ∷ ys) g c = one tt (behind_it (inner_says n y g.0 c.0) (symbols_say (suc n) ys g.1 c.1))
 
     -- ── wires ──
@@ -267,7 +267,7 @@ module _ (spool : List ℕ) where
     edge_says owner k n (suc (suc j)) v join h x = absurd (omega arith)
 
     edges_say : (owner k : ℕ) (es : List Edge) → Each FitEdge es → Each (CameEdge (Has vs) k) es → All (edge_records owner k es)
-    edges_say owner k [] g x = None
+    edges_say owner k [] g x = none
     edges_say owner k (e ∷ es) g x = one (edge_says owner k e.line e.row e.values e.join g.0 x.0) (edges_say owner k es g.1 x.1)
 
     -- ── figures of layers ──
@@ -301,10 +301,10 @@ module _ (spool : List ℕ) where
 
       figure_says : (owner k : ℕ) (f : Figure) → FitFigure AnyText true f → CameFigure (Has vs) true k f → All (figure_records view 0 owner k f)
       unfolding text_table placed_table
-      figure_says owner k (plain n j v) g x = one (layer-line owner k n j v g x) None
+      figure_says owner k (plain n j v) g x = one (layer-line owner k n j v g x) none
       figure_says owner k (chain n ps) g x = one tt (points-quiet 17 owner k ps refl)
-      figure_says owner k (lettering n o) g x = one tt None
-      figure_says owner k (placed n h) g x = one tt None
+      figure_says owner k (lettering n o) g x = one tt none
+      figure_says owner k (placed n h) g x = one tt none
       figure_says owner k (wired n w) g x =
           let shows = wire-shows view w owner k n in
           let t = both view w owner k n in
@@ -312,7 +312,7 @@ module _ (spool : List ℕ) where
       figure_says owner k (passed n) g x =
           let shows = skip-shows view owner k n in
           let t = unread_numbers (mark_unread (digits 0 0) (digits_of view.wires) wire_table (wire_start owner k n)) in
-          one (quiet (take 32 t) 18 shows.kind refl) (one (quiet (drop 32 t) 19 shows.kind_too refl) None)
+          one (quiet (take 32 t) 18 shows.kind refl) (one (quiet (drop 32 t) 19 shows.kind_too refl) none)
 
       body_says : (k : ℕ) (v : Contents) → Each (FitBlock AnyText) v.blocks → CameContents (Has vs) k v → All (body_records view k v)
       body_says k v g x =
@@ -321,7 +321,7 @@ module _ (spool : List ℕ) where
           v.blocks g x
 
       volumes_say : (k : ℕ) (us : List Contents) → Each (FitContents AnyText false) us → CameVolumes (Has vs) k us → All (later_records view k us)
-      volumes_say k [] g x = None
+      volumes_say k [] g x = none
       volumes_say k (v ∷ us) g x = behind_it (behind_it (later-quiet k v) (body_says k v g.0.1 x.0)) (volumes_say (suc k) us g.1 x.1)
 
       set_says : FitSet AnyText s → CameSet (Has vs) s → All (records_of c s)
@@ -329,7 +329,7 @@ module _ (spool : List ℕ) where
       set_says f x = go s.volumes f.2 x.1
         where
           go : (us : List Contents) → FitVolumes AnyText us → CameVolumes (Has vs) 1 us → All (records_from c s us)
-          go [] g x = None
+          go [] g x = none
           go (v ∷ us) g y =
               behind_it
               (behind_it

@@ -56,7 +56,7 @@ module _ (spool before after : List ℕ) (r : Result ℕ NoRoom) (yes : IsAccept
   fronts = promise yes.0 yes.1
 
   -- it does not fit
-  pub rewrites-full : r ≡ (Err no_room) → (out : List ℕ) → out ≡ replicate (length after) 0 → Rewrites len spool (refusal 20 0 0) out
+  pub rewrites-full : r ≡ Err no_room → (out : List ℕ) → out ≡ replicate (length after) 0 → Rewrites len spool (refusal 20 0 0) out
   rewrites-full e out h =
       refused-so len spool _ out (accepts len spool yes ∙ ap (λ (b : Bool). cond b (Ok (length text)) (refusal 20 0 0)) (go (leb (length text) len) (sym e ∙ fronts.answer))) (h ∙ ap (λ (m : ℕ). replicate m 0) within.long)
     where

@@ -42,7 +42,7 @@ module _ (text out after : List ℕ) (r : Result ℕ NoRoom) (h : length out ≡
   longer : length (text ++ b ∷ []) ≡ length text + 1
   longer = omega (arith, length-append text (b ∷ []))
 
-  pub ended-full : r ≡ (Err no_room) → Puts (text ++ b ∷ []) out (after ++ drop (length out - 1) out) (Err no_room)
+  pub ended-full : r ≡ Err no_room → Puts (text ++ b ∷ []) out (after ++ drop (length out - 1) out) (Err no_room)
   ended-full e =
       let w = was-full text (take (length out - 1) out) after (subst (Puts text (take (length out - 1) out) after) e p) in
       let less : length out < length text + 1 = omega (arith, w.0, short) in
@@ -161,7 +161,7 @@ module _ (zs : List ℤ) (before out : List ℕ) (at i : ℕ) (g : Laid zs befor
     written : Puts (show_signed z ++ b ∷ []) (drop at out) after r
     written = subst (λ (s : List ℕ). Puts (show_signed z ++ b ∷ []) s after r) (rest_all at out) p
 
-    pub line-full : r ≡ (Err no_room) → (cleared : List ℕ) → cleared ≡ replicate (length (put_mid at (length out - at) out after)) 0 → Lays (print_line zs) before cleared (Err no_room)
+    pub line-full : r ≡ Err no_room → (cleared : List ℕ) → cleared ≡ replicate (length (put_mid at (length out - at) out after)) 0 → Lays (print_line zs) before cleared (Err no_room)
     line-full e cleared m =
         let w = was-full (show_signed z ++ b ∷ []) (drop at out) after (subst (Puts (show_signed z ++ b ∷ []) (drop at out) after) e written) in
         let kept : length (put_mid at (length out - at) out after) ≡ length out = same_len_mid at (length out - at) out after (ap (λ (s : List ℕ). length s) (w.1 ∙ sym (rest_all at out))) in

@@ -118,7 +118,7 @@ module _ (p : Pen) (out x part : List ℕ) (block : ℕ) (safe : Safe p out) (r 
         wrote_draws p.at out safe.within x part n (moved p (length x) block 0) w,
       )
 
-  pub line-full : r ≡ (Err no_room) → Kept out after (Err no_room) × Draws x p.at (moved p (length x) block 0) out after (Err no_room)
+  pub line-full : r ≡ Err no_room → Kept out after (Err no_room) × Draws x p.at (moved p (length x) block 0) out after (Err no_room)
   line-full e = (
     record { safe = tt; long = back_long p.at out safe.within part keeps.long },
     full_draws p.at out safe.within x part (moved p (length x) block 0) (subst (Prints x (lent p.at out safe.within) part) e prints),

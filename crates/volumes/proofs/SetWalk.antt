@@ -240,7 +240,7 @@ module _ (spool : List ℕ) (set : Set) (a : Accepted spool set) where
         ∙ ap (λ (vs : List Volume). volumes_bytes x.names x.texts ++ volumes_bytes (names_of vs) (rest_lines plain_env set (eqb i 0) x.cs)) z.is
         ∙ ap (λ (ts : List Text). volumes_bytes x.names x.texts ++ volumes_bytes (names_of (z.volume ∷ z.us)) ts) z.behind_it.text
 
-    pub turn-full : (before after : List ℕ) → length out ≡ length before → r ≡ (Err no_room) → Fronts (written spool) before after (Err no_room)
+    pub turn-full : (before after : List ℕ) → length out ≡ length before → r ≡ Err no_room → Fronts (written spool) before after (Err no_room)
     turn-full before after long e =
         let f = unfronted new (lent at out h) part (subst (Fronts new (lent at out h) part) e z.out-is.fronts) in
         fronts-none (written spool) before after

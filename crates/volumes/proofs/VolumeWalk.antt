@@ -156,7 +156,7 @@ module _ (spool body : List ℕ) (start : ℕ) (first : Bool) where
           }
 
       -- there was no room for it, so there is none for all
-      pub walk-short : (x : Reading spool body start first) → d ≡ (Err no_room) → length out' ≡ length out → length before < length (line_bytes (shown x.known first x.ends))
+      pub walk-short : (x : Reading spool body start first) → d ≡ Err no_room → length out' ≡ length out → length before < length (line_bytes (shown x.known first x.ends))
       walk-short x e size =
           let g = went x in
           let full : length out' < length (line_bytes (shown x.known first g.state)) = subst (LineOut x.known spool first g.state ns' out') e g.out-is in
