@@ -41,7 +41,7 @@ use Rattle.pens.specs.Groups.{PrintsOwn, PrintsShut, Printed, is_over, PrintsLin
 use Rattle.pens.proofs.Laying.{bytes-append}
 use Rattle.pens.proofs.ShownLaws.{more-with, slots-more, none_more}
 use Rattle.pens.proofs.Behind.{prints-none, prints-fit, prints-full}
-use Rattle.pens.proofs.Writers.{lays, no_room, kept-long, room-left}
+use Rattle.pens.proofs.Writers.{lays, room-lacks, kept-long, room-left}
 use Rattle.pens.proofs.KeyRows.{found-is, found_none}
 use Rattle.pens.proofs.NotedLaws.{noted-line, set-rows, blank-rows}
 use Rattle.pens.proofs.LinesLeft.{line-next, forms-next, forms-end}
@@ -258,7 +258,7 @@ module _ (x : List ℕ) (n : ℕ) (before out : List ℕ) (h : n ≤ length out)
       }
 
   pub front-full : r ≡ Err no_room → length before < length (x ++ y)
-  front-full e = omega (arith, no_room out n h mid r y p e, length-append x y, z.size, front_long)
+  front-full e = omega (arith, room-lacks out n h mid r y p e, length-append x y, z.size, front_long)
 
 pub front-prints : (x : List ℕ) (n : ℕ) (before out : List ℕ) → Front x n before out → Prints x before out (Ok n)
 front-prints x n before out z =

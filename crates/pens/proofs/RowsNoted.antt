@@ -202,8 +202,8 @@ module _ (spool : List ℕ) (table number note : ℕ) (before : List ℕ) where
     mid_spared k q v w = line_spared k q v before mid (a.memory ∙ ap (λ (u : List ℕ). put_memory u before) w.key)
 
     module _ (e : r ≡ None) where
-      no_room : (q : Rule) → Named table number q → length q.key ≤ length before → ⊥
-      no_room q w l = rw e at (a.row q w l)
+      room-lacks : (q : Rule) → Named table number q → length q.key ≤ length before → ⊥
+      room-lacks q w l = rw e at (a.row q w l)
 
       pub noted-absent : Within before mid (Err no_room) × PrintsNoted spool table number note before mid (Err no_room)
       noted-absent = (within-full before mid mid-long, prints)
@@ -211,12 +211,12 @@ module _ (spool : List ℕ) (table number note : ℕ) (before : List ℕ) where
           prints : PrintsNoted spool table number note before mid (Err no_room)
           prints k q None w z = absurd (there z)
           prints k q (Some v) w z =
-              room (length q.key) (length before) (λ l. absurd (no_room q w l))
+              room (length q.key) (length before) (λ l. absurd (room-lacks q w l))
               (λ l. prints-full (row_bytes k q (Some v)) before mid (omega (arith, l, line-long k q v)))
 
       pub inner-absent : (base : ℕ) → TellsInner spool base table number note before mid 255
       inner-absent base k q None w z = absurd (there z)
-      inner-absent base k q (Some v) w z = (mid_spared k q v w, λ l. absurd (no_room q w (omega (arith, l, line-long k q v))))
+      inner-absent base k q (Some v) w z = (mid_spared k q v w, λ l. absurd (room-lacks q w (omega (arith, l, line-long k q v))))
 
     module _ (row : CodeRow) (e : r ≡ Some row) (rest : CodeRest) (m : RestIs row note rest) where
       -- the row is found where there is room for its key

@@ -81,8 +81,8 @@ module _ (out : List ℕ) (a : ℕ) (h : a ≤ length out) (w : List ℕ) (r : R
             }
         go false f z = full-bytes (sym z)
 
-    pub no_room : r ≡ Err no_room → length out < a + length x
-    no_room e = go (leb (length x) (length rest)) refl (sym e ∙ i.answer)
+    pub room-lacks : r ≡ Err no_room → length out < a + length x
+    room-lacks e = go (leb (length x) (length rest)) refl (sym e ∙ i.answer)
       where
         go : (t : Bool) → leb (length x) (length rest) ≡ t → (Err no_room) ≡ cond t (Ok (length x)) (Err no_room) → length out < a + length x
         go true f z = full-bytes z
@@ -269,7 +269,7 @@ module _ (out : List ℕ) (a : ℕ) (h : a ≤ length out) (w : List ℕ) (r : R
       last-lays y j m f = lays turned (a + n) turned-room w₂ r₂ y j m f
 
       pub last_none : (y : List ℕ) → Prints y second w₂ r₂ → r₂ ≡ Err no_room → length turned < a + n + length y
-      last_none y j f = no_room turned (a + n) turned-room w₂ r₂ y j f
+      last_none y j f = room-lacks turned (a + n) turned-room w₂ r₂ y j f
 
 -- ── the pen within the output, step by step ──
 pub kept_then : (before mid after : List ℕ) (d : Result Pen NoRoom) → length mid ≡ length before → Kept mid after d → Kept before after d

@@ -61,8 +61,8 @@ module _ (s before out notes : List ℕ) (at i : ℕ) (z : Going s before out no
         (held ∙ ap (λ (y : Layout). take (get_or y.lengths i 0) (drop (get_or l.places i 0) s)) e) part r promise n b);
   }
 
-  pub no_room : r ≡ Err no_room → Within before (back at out f part) (Err no_room) × SetPromise s before (back at out f part) (Err no_room)
-  no_room b = (
+  pub room-lacks : r ≡ Err no_room → Within before (back at out f part) (Err no_room) × SetPromise s before (back at out f part) (Err no_room)
+  room-lacks b = (
     within-full before (back at out f part) (within-long at out f part r w ∙ z.long),
     λ set q. turn-full s set (accepted-so s set q) i at out f (z.done set q) body _ (below set q) (ap (λ (y : Layout). get_or y.places i 0) (sym e))
         (held ∙ ap (λ (y : Layout). take (get_or y.lengths i 0) (drop (get_or l.places i 0) s)) e) part r promise before (back at out f part) z.long b,

@@ -2,7 +2,7 @@ use mathlib.Core.Path.{refl, ◌∙◌}
 use native.Mathlib.Omega.{arith}
 use borrow.Author.Rules.{rules}
 use Rattle.volumes.proofs.LentOutput.{within-long, lent-room}
-use Rattle.volumes.proofs.SetLoop.{few, begins, goes_on, no_room, ends}
+use Rattle.volumes.proofs.SetLoop.{few, begins, goes_on, room-lacks, ends}
 use Rattle.volumes.proofs.put_set.Goals as goal
 
 pub volumes-l-requires : goal.volumes-l-requires
@@ -54,7 +54,7 @@ pub shape_of-out-in_default : goal.shape_of-out-in_default
 shape_of-out-in_default c = within-long _ _ c.loop-i.invariant.fits _ _ c.put_volume-wrote.ensures.0 ∙ c.loop-i.invariant.long
 
 pub returns-in_default : goal.returns-in_default
-returns-in_default c = no_room _ _ _ _ _ _ c.loop-i.invariant _ c.volumes-l.ensures c.loop-i-test.true c.loop-i.invariant.fits c.part-body.result.now c.part-body.ensures _ _ c.put_volume-wrote.ensures.0 c.put_volume-wrote.ensures.2 c.in_default.is
+returns-in_default c = room-lacks _ _ _ _ _ _ c.loop-i.invariant _ c.volumes-l.ensures c.loop-i-test.true c.loop-i.invariant.fits c.part-body.result.now c.part-body.ensures _ _ c.put_volume-wrote.ensures.0 c.put_volume-wrote.ensures.2 c.in_default.is
 
 pub overflow_add-at : goal.overflow_add-at
 overflow_add-at c = omega (arith, lent-room c.loop-i.at c.loop-i.out c.loop-i.invariant.fits _ _ _ c.put_volume-wrote.ensures.0 c.in-Ok.is)

@@ -4,7 +4,7 @@ use Prim.Native.Nat.{◌+◌}
 use mathlib.Core.List.{[], ◌∷◌}
 use lib.ListN.{length}
 use Rattle.pens.specs.Closing.{shut_bytes, drawing_rows}
-use Rattle.pens.proofs.Writers.{room-left, kept-long, kept_full, kept_then, lays, no_room, inserted, inserted-none, turned_same, turned-room}
+use Rattle.pens.proofs.Writers.{room-left, kept-long, kept_full, kept_then, lays, room-lacks, inserted, inserted-none, turned_same, turned-room}
 use Rattle.pens.proofs.Closings.{shut_at, safe-there, tables-some, drawing-part}
 use borrow.Author.Rules.{rules}
 use Rattle.pens.proofs.closing.close_drawing.Goals as goal
@@ -74,7 +74,7 @@ returns-in-Err c =
     let args = c.args in
     let pre = c.requires in
     let the-put-rows = c.put_rows in
-    (kept_full args.out.now args.pen.at pre.within _ _ the-put-rows.ensures.0, λ k s z. inserted-none (drawing_rows k s) shut_bytes args.pen.start args.pen.at _ args.out.now _ (no_room args.out.now args.pen.at pre.within _ _ _ (the-put-rows.ensures.1 refl k (s ∷ []) 0 (drawing-part _ k _ s z) (tables-some 7) refl) c.in-Err.is))
+    (kept_full args.out.now args.pen.at pre.within _ _ the-put-rows.ensures.0, λ k s z. inserted-none (drawing_rows k s) shut_bytes args.pen.start args.pen.at _ args.out.now _ (room-lacks args.out.now args.pen.at pre.within _ _ _ (the-put-rows.ensures.1 refl k (s ∷ []) 0 (drawing-part _ k _ s z) (tables-some 7) refl) c.in-Err.is))
 
 pub shape_of-out-in-Ok : goal.shape_of-out-in-Ok
 shape_of-out-in-Ok c = search rules

@@ -5,7 +5,7 @@ use native.Mathlib.Omega.{arith}
 use mathlib.Core.List.{[], ◌++◌}
 use lib.ListN.{length, length-append}
 use Rattle.pens.specs.Closing.{shut_bytes}
-use Rattle.pens.proofs.Writers.{room-left, kept-long, kept_full, kept_then, lays, no_room, drawn_then}
+use Rattle.pens.proofs.Writers.{room-left, kept-long, kept_full, kept_then, lays, room-lacks, drawn_then}
 use Rattle.pens.proofs.Closings.{shut_at, shut_none, safe-there, tables-some}
 use borrow.Author.Rules.{rules}
 use Rattle.pens.proofs.closing.close_rows.Goals as goal
@@ -59,4 +59,4 @@ returns-in-Err c =
     let args = c.args in
     let pre = c.requires in
     let the-put-rows = c.put_rows in
-    (kept_full args.out.now args.pen.at pre.0.within _ _ the-put-rows.ensures.0, λ k h z. shut_none (line_bytes (show_depth k (tables_of args.base) h 3 0 [])) args.pen.at _ args.out.now _ (no_room args.out.now args.pen.at pre.0.within _ _ (line_bytes (show_depth k (tables_of args.base) h 3 0 [])) (the-put-rows.ensures.1 pre.1 k h 0 z (tables-some args.base) refl) c.in-Err.is))
+    (kept_full args.out.now args.pen.at pre.0.within _ _ the-put-rows.ensures.0, λ k h z. shut_none (line_bytes (show_depth k (tables_of args.base) h 3 0 [])) args.pen.at _ args.out.now _ (room-lacks args.out.now args.pen.at pre.0.within _ _ (line_bytes (show_depth k (tables_of args.base) h 3 0 [])) (the-put-rows.ensures.1 pre.1 k h 0 z (tables-some args.base) refl) c.in-Err.is))

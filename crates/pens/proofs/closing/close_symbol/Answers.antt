@@ -5,7 +5,7 @@ use native.Mathlib.Omega.{arith}
 use Prim.Native.Nat.{◌+◌}
 use mathlib.Core.List.{◌++◌}
 use lib.ListN.{length}
-use Rattle.pens.proofs.Writers.{room-left, kept-long, kept_full, kept_then, lays, no_room, drawn_then, inserted, inserted-none, turned-room, last-same, last-room, last-full, last-lays, last_none}
+use Rattle.pens.proofs.Writers.{room-left, kept-long, kept_full, kept_then, lays, room-lacks, drawn_then, inserted, inserted-none, turned-room, last-same, last-room, last-full, last-lays, last_none}
 use Rattle.pens.proofs.Closings.{shut_at, shut_none, safe-there, name-row, wall-row}
 use borrow.Author.Rules.{rules}
 use Rattle.pens.proofs.closing.close_symbol.Goals as goal
@@ -39,7 +39,7 @@ returns-in_default c =
     let args = c.args in
     let pre = c.requires in
     let the-put-noted = c.put_noted-named in
-    (kept_full args.out.now args.pen.at pre.0.within _ _ the-put-noted.ensures.0, λ k a b x y. inserted-none (row_bytes k (rule_at symbol_table 0) a) ((row_bytes k (rule_at symbol_table 3) b) ++ shut_bytes) args.pen.start args.pen.at _ args.out.now _ (no_room args.out.now args.pen.at pre.0.within _ _ (row_bytes k (rule_at symbol_table 0) a) (the-put-noted.ensures.1 k (rule_at symbol_table 0) a name-row x) c.in_default.is))
+    (kept_full args.out.now args.pen.at pre.0.within _ _ the-put-noted.ensures.0, λ k a b x y. inserted-none (row_bytes k (rule_at symbol_table 0) a) ((row_bytes k (rule_at symbol_table 3) b) ++ shut_bytes) args.pen.start args.pen.at _ args.out.now _ (room-lacks args.out.now args.pen.at pre.0.within _ _ (row_bytes k (rule_at symbol_table 0) a) (the-put-noted.ensures.1 k (rule_at symbol_table 0) a name-row x) c.in_default.is))
 
 pub overflow_add-to : goal.overflow_add-to
 overflow_add-to c =

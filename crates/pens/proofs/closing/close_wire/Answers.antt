@@ -5,7 +5,7 @@ use lib.ListN.{length, length-append}
 use Rattle.pens.specs.Texts.{line_bytes}
 use Rattle.pens.specs.Closing.{shut_bytes}
 use Rattle.pens.specs.Groups.{keys_text}
-use Rattle.pens.proofs.Writers.{room-left, kept-long, kept_full, kept_then, lays, no_room, drawn_then}
+use Rattle.pens.proofs.Writers.{room-left, kept-long, kept_full, kept_then, lays, room-lacks, drawn_then}
 use Rattle.pens.proofs.Closings.{shut_at, shut_none, safe-there}
 use borrow.Author.Rules.{rules}
 use Rattle.pens.proofs.closing.close_wire.Goals as goal
@@ -62,5 +62,5 @@ returns-in-Err c =
     let args = c.args in
     let pre = c.requires in (
       kept_full args.out.now args.pen.at pre.within _ _ c.put_keys.ensures.0,
-      λ k t z. shut_none (line_bytes (keys_text t 8)) args.pen.at _ args.out.now _ (no_room args.out.now args.pen.at pre.within _ _ (line_bytes (keys_text t 8)) (c.put_keys.ensures.1 k t z) c.in-Err.is),
+      λ k t z. shut_none (line_bytes (keys_text t 8)) args.pen.at _ args.out.now _ (room-lacks args.out.now args.pen.at pre.within _ _ (line_bytes (keys_text t 8)) (c.put_keys.ensures.1 k t z) c.in-Err.is),
     )

@@ -1,7 +1,7 @@
 use Prim.Native.Nat.{ℕ}
 use mathlib.Core.Path.{refl}
 use native.Mathlib.Omega.{arith}
-use Rattle.pens.proofs.Writers.{room-left, kept-go, kept_full, lays, no_room, drawn-go, drawn-none}
+use Rattle.pens.proofs.Writers.{room-left, kept-go, kept_full, lays, room-lacks, drawn-go, drawn-none}
 use Rattle.pens.specs.Moves.{moved}
 use borrow.Author.Rules.{rules}
 use Rattle.pens.proofs.closing.shut.Goals as goal
@@ -48,4 +48,4 @@ returns-in-Err c =
     let args = c.args in
     let pre = c.requires in
     let the-put-plain = c.put_plain in
-    (kept_full args.out.now args.pen.at pre.within _ _ the-put-plain.ensures.0, drawn-none _ _ _ _ _ (no_room args.out.now args.pen.at pre.within _ _ _ the-put-plain.ensures.1 c.in-Err.is))
+    (kept_full args.out.now args.pen.at pre.within _ _ the-put-plain.ensures.0, drawn-none _ _ _ _ _ (room-lacks args.out.now args.pen.at pre.within _ _ _ the-put-plain.ensures.1 c.in-Err.is))

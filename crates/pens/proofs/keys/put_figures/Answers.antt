@@ -1,7 +1,7 @@
 use Prim.Native.Nat.{ℕ}
 use mathlib.Core.Path.{refl}
 use native.Mathlib.Omega.{arith}
-use Rattle.pens.proofs.Writers.{room-left, kept-go, kept_full, lays, no_room, drawn-go, drawn-none}
+use Rattle.pens.proofs.Writers.{room-left, kept-go, kept_full, lays, room-lacks, drawn-go, drawn-none}
 use Rattle.pens.specs.Moves.{among_figures}
 use borrow.Author.Rules.{rules}
 use Rattle.pens.proofs.keys.put_figures.Goals as goal
@@ -48,4 +48,4 @@ returns-in-Err c =
     let args = c.args in
     let pre = c.requires in
     let the-put-row = c.put_row in
-    (kept_full args.out.now args.pen.at pre.within _ _ the-put-row.ensures.0, λ k q v i g. drawn-none _ _ _ _ _ (no_room args.out.now args.pen.at pre.within _ _ _ (the-put-row.ensures.1 k q v i.rule i.key g) c.in-Err.is))
+    (kept_full args.out.now args.pen.at pre.within _ _ the-put-row.ensures.0, λ k q v i g. drawn-none _ _ _ _ _ (room-lacks args.out.now args.pen.at pre.within _ _ _ (the-put-row.ensures.1 k q v i.rule i.key g) c.in-Err.is))
