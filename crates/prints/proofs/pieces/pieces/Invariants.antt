@@ -1,10 +1,6 @@
 use Prim.Native.Nat.{◌-◌}
-use mathlib.Core.Path.{sym}
-use native.Mathlib.Omega.{arith}
 use lib.ListN.{length}
-use lib.Seq.{length-take-le}
-use borrow.Author.Rules.{rules}
-use Rattle.prints.proofs.Commas.{Goes, none_yet, all-written, room-behind, one_more}
+use Rattle.prints.proofs.Commas.{Goes}
 use Rattle.prints.proofs.pieces.pieces.Given as goal
 
 abbrev pub invariant-loop-out : goal.invariant-loop-out

@@ -3,23 +3,7 @@ use Rattle.tables.specs.Tables.{table_of}
 use Rattle.keywords.specs.Keys.{key_at}
 use Rattle.prints.proofs.Going.{from_front}
 use Rattle.prints.proofs.Whole.{row_line}
-use borrow.Author.Rules.{rules}
 use Rattle.prints.proofs.rows.put_row.Goals as goal
-
-pub shape_for-shape-requires : goal.shape_for-shape-requires
-shape_for-shape-requires c = tt
-
-pub put_key-key-requires : goal.put_key-key-requires
-put_key-key-requires c = tt
-
-pub behind-all-requires : goal.behind-all-requires
-behind-all-requires c = tt
-
-pub end-requires : goal.end-requires
-end-requires c = tt
-
-pub shape_of-out : goal.shape_of-out
-shape_of-out c = search rules
 
 pub returns : goal.returns
 returns c =

@@ -7,47 +7,17 @@ use Rattle.prints.proofs.Going.{none_left, beyond, placed-full, placed-room, pla
 use borrow.Author.Rules.{rules}
 use Rattle.prints.proofs.texts.decimal.Goals as goal
 
-pub enum_known-at : goal.enum_known-at
-enum_known-at c = search rules
-
-pub enum_told-1 : goal.enum_told-1
-enum_told-1 c = search rules
-
 pub returns-in_default : goal.returns-in_default
 returns-in_default c = none_left (show_decimal c.args.z) c.args.out.now c.args.at c.in_default.is
 
 pub returns-then-out-start : goal.returns-then-out-start
 returns-then-out-start c = beyond (show_decimal c.args.z) c.args.out.now c.args.at c.in-Ok.start c.in-Ok.is c.if-out-start.true
 
-pub slice_bounds-put_decimal-count : goal.slice_bounds-put_decimal-count
-slice_bounds-put_decimal-count c = search rules
-
-pub slice_bounds-put_decimal-start : goal.slice_bounds-put_decimal-start
-slice_bounds-put_decimal-start c = search rules
-
-pub slice_bounds-put_decimal-end : goal.slice_bounds-put_decimal-end
-slice_bounds-put_decimal-end c = search rules
-
-pub put_decimal-requires : goal.put_decimal-requires
-put_decimal-requires c = search rules
-
-pub enum_known-long : goal.enum_known-long
-enum_known-long c = search rules
-
-pub enum_told-in_default-put_decimal : goal.enum_told-in_default-put_decimal
-enum_told-in_default-put_decimal c = search rules
-
-pub shape_of-out-in_default-put_decimal : goal.shape_of-out-in_default-put_decimal
-shape_of-out-in_default-put_decimal c = search rules
-
 pub returns-in_default-put_decimal : goal.returns-in_default-put_decimal
 returns-in_default-put_decimal c = let f : SFits w64 c.args.z = search rules in placed-full (show_decimal c.args.z) c.args.out.now _ c.args.at _ c.in-Ok.start c.in-Ok.is c.if-out-start.false (rw (to_z-of_z f) at c.put_decimal.ensures) c.in_default-put_decimal.is
 
 pub overflow_add-result : goal.overflow_add-result
 overflow_add-result c = let f : SFits w64 c.args.z = search rules in record { fits = omega (arith, placed-room (show_decimal c.args.z) c.args.out.now _ c.args.at _ c.in-Ok.start c.in-Ok.is c.if-out-start.false (rw (to_z-of_z f) at c.put_decimal.ensures) c.in-Ok-put_decimal.long c.in-Ok-put_decimal.is) }
-
-pub shape_of-out : goal.shape_of-out
-shape_of-out c = search rules
 
 pub returns : goal.returns
 returns c = let f : SFits w64 c.args.z = search rules in placed-bytes (show_decimal c.args.z) c.args.out.now _ c.args.at _ c.in-Ok.start c.in-Ok.is c.if-out-start.false (rw (to_z-of_z f) at c.put_decimal.ensures) c.in-Ok-put_decimal.long c.in-Ok-put_decimal.is
