@@ -46,6 +46,7 @@ use Rattle.pens.proofs.KeyRows.{found-is, found_none}
 use Rattle.pens.proofs.NotedLaws.{noted-line, set-rows, blank-rows}
 use Rattle.pens.proofs.LinesLeft.{line-next, forms-next, forms-end}
 use Rattle.leaves.specs.declared.NoRoom.{NoRoom}
+use Rattle.leaves.specs.NoRoom.{no_room}
 
 -- ── the tables ──
 wire-rows : table_of 20 ≡ wire_table

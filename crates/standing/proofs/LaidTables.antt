@@ -77,8 +77,8 @@ module _ (t : List ℤ) (fore us vs bs : List (List ℤ)) (w a : ℕ) (l : Laid 
       ap (λ (x : List ℤ). x ++ z) (flat_append fore (rs ++ bs)) ∙ append_assoc (flat fore) (flat (rs ++ bs)) z
       ∙ ap (λ (x : List ℤ). flat fore ++ (x ++ z)) (flat_append rs bs) ∙ ap (λ (x : List ℤ). flat fore ++ x) (append_assoc (flat rs) (flat bs) z)
 
-  : (rs : List (List ℤ)) → length (fore ++ (rs ++ bs)) ≡ length fore + (length rs + length bs)
-  rs = length-append fore (rs ++ bs) ∙ ap (λ (n : ℕ). length fore + n) (length-append rs bs)
+  count_of : (rs : List (List ℤ)) → length (fore ++ (rs ++ bs)) ≡ length fore + (length rs + length bs)
+  count_of rs = length-append fore (rs ++ bs) ∙ ap (λ (n : ℕ). length fore + n) (length-append rs bs)
 
   old : t ≡ flat fore ++ (flat us ++ (flat bs ++ zs))
   old = l.eq ∙ parts us zs
@@ -95,7 +95,7 @@ module _ (t : List ℤ) (fore us vs bs : List (List ℤ)) (w a : ℕ) (l : Laid 
         ap (λ (x : List ℤ). x ++ (flat vs ++ drop (a + length (flat vs)) t)) (ap (take a) old ∙ take_at (flat fore) (flat us ++ (flat bs ++ zs)) a ha)
         ∙ ap (λ (x : List ℤ). flat fore ++ (flat vs ++ x)) back ∙ sym (parts vs zs);
     size = omega (arith, flat-size fore vs bs, flat-size fore us bs, l.size, same);
-    many = omega (arith, l.many, vs, us, few);
+    many = omega (arith, l.many, count_of vs, count_of us, few);
   }
 
 -- ── the whole table ──

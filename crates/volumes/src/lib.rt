@@ -134,11 +134,11 @@ fn put_head(name: &[u8], size: usize, out: &mut [u8])
     requires { (length name.now ≤ 8) × (12 ≤ length out.old) }
     ensures { out.new ≡ head_bytes name.now size ++ drop 12 out.old }
 {
-    put(b"VP        ", out);
-    put(name, &mut out[2..]);
+    let _ = put(b"VP        ", out);
+    let _ = put(name, &mut out[2..]);
     let high = (size / 256 % 256) as u8;
     let low = (size % 256) as u8;
-    put(&[high, low], &mut out[10..]);
+    let _ = put(&[high, low], &mut out[10..]);
 }
 
 // A volume, behind its head.

@@ -93,7 +93,7 @@ returns-in_default c = (
 )
 
 pub overflow_add-result : goal.overflow_add-result
-overflow_add-result c = omega (arith, put-room c.loop-going.pen.at c.loop-going.out c.loop-going.invariant.safe.within _ _ _ _ c.put.ensures c.in-Ok.is, c.loop-going.invariant.long)
+overflow_add-result c = omega (arith, put-room c.loop-going.pen.at c.loop-going.out c.loop-going.invariant.safe.within _ _ _ _ c.put.ensures c.in-Ok-put.is, c.loop-going.invariant.long)
 
 pub shape_of-notes : goal.shape_of-notes
 shape_of-notes c = c.loop-going.invariant.many ∙ sym c.requires
@@ -104,7 +104,7 @@ shape_of-out c = put-long c.loop-going.pen.at c.loop-going.out c.loop-going.inva
 pub returns : goal.returns
 returns c = (
   bytes-within _ _ _ (put-long c.loop-going.pen.at c.loop-going.out c.loop-going.invariant.safe.within _ _ _ c.put.ensures ∙ c.loop-going.invariant.long)
-      (omega (arith, put-room c.loop-going.pen.at c.loop-going.out c.loop-going.invariant.safe.within _ _ _ _ c.put.ensures c.in-Ok.is, c.loop-going.invariant.long)),
+      (omega (arith, put-room c.loop-going.pen.at c.loop-going.out c.loop-going.invariant.safe.within _ _ _ _ c.put.ensures c.in-Ok-put.is, c.loop-going.invariant.long)),
   c.loop-going.invariant.many,
-  body_promise _ _ _ _ _ _ _ (λ x. body-wrote _ _ _ _ _ _ _ _ _ _ _ c.loop-going.invariant c.loop-going-test.false _ x _ (rw c.in-Ok.is at c.put.ensures)),
+  body_promise _ _ _ _ _ _ _ (λ x. body-wrote _ _ _ _ _ _ _ _ _ _ _ c.loop-going.invariant c.loop-going-test.false _ x _ (rw c.in-Ok-put.is at c.put.ensures)),
 )

@@ -18,8 +18,8 @@ enum_known-did-in-Stop-1 c = search rules
 pub refused-requires-in-Stop : goal.refused-requires-in-Stop
 refused-requires-in-Stop c = search rules
 
-pub returns-in-Ok : goal.returns-in-Ok
-returns-in-Ok c = sym (ap (through_of c.args.v c.args.line) c.in-Ok.is)
+pub returns-in-Go : goal.returns-in-Go
+returns-in-Go c = sym (ap (through_of c.args.v c.args.line) c.in-Go.is)
 
 pub returns-in-Skip : goal.returns-in-Skip
 returns-in-Skip c = c.refused.ensures ∙ sym (ap (through_of c.args.v c.args.line) c.in-Skip.is)

@@ -108,8 +108,8 @@ enum_known-did c = search rules
 pub slice_bounds-put_done-end : goal.slice_bounds-put_done-end
 slice_bounds-put_done-end c = search rules
 
-pub slice_bounds-put_done-end-in-Ok : goal.slice_bounds-put_done-end-in-Ok
-slice_bounds-put_done-end-in-Ok c = search rules
+pub slice_bounds-put_done-end-in-Go : goal.slice_bounds-put_done-end-in-Go
+slice_bounds-put_done-end-in-Go c = search rules
 
 pub put_done-requires : goal.put_done-requires
 put_done-requires c = ((◌∙◌ {b = length c.loop-at.header} c.step-answer.auto.header c.loop-at.invariant.arrays.header), (◌∙◌ {b = length c.loop-at.scratch} c.step-answer.auto.scratch c.loop-at.invariant.arrays.scratch), turn-own _ _ _ _ _ _ _ _ _ _ _ _ _ _ c.loop-at.invariant _ c.next_line-seen.ensures c.if-seen-at.false _ c.both.ensures c.requires)
@@ -117,18 +117,18 @@ put_done-requires c = ((◌∙◌ {b = length c.loop-at.header} c.step-answer.au
 pub own_after-own-requires : goal.own_after-own-requires
 own_after-own-requires c = tt
 
-pub loop-at-smaller-in-Ok : goal.loop-at-smaller-in-Ok
-loop-at-smaller-in-Ok c = let m = seen-forward _ _ _ _ c.next_line-seen.ensures c.if-seen.false in omega (arith, m.0, m.1)
+pub loop-at-smaller-in-Go : goal.loop-at-smaller-in-Go
+loop-at-smaller-in-Go c = let m = seen-forward _ _ _ _ c.next_line-seen.ensures c.if-seen.false in omega (arith, m.0, m.1)
 
-pub loop-at-preserved-in-Ok : goal.loop-at-preserved-in-Ok
-loop-at-preserved-in-Ok c =
+pub loop-at-preserved-in-Go : goal.loop-at-preserved-in-Go
+loop-at-preserved-in-Go c =
     let after = desk c.loop-at.here c.step-answer.new.tally c.step-answer.new.symbols c.step-answer.new.layers c.step-answer.new.serials c.step-answer.new.used c.step-answer.new.used_all c.step-answer.new.marks c.step-answer.new.inner c.step-answer.new.header c.step-answer.new.scratch in
     let l = c.loop-at in
     let before = desk l.here l.tally l.symbols l.layers l.serials l.used l.used_all l.marks l.inner l.header l.scratch in
     let kept : SameLengths before after c.loop-at.t c.loop-at.t = record { tally = c.step-answer.auto.tally; symbols = c.step-answer.auto.symbols; layers = c.step-answer.auto.layers; serials = c.step-answer.auto.serials; used_all = c.step-answer.auto.used_all; table = refl } in
     let o = c.loop-at.invariant.arrays in
     let own : OwnLengths after = record { used = ◌∙◌ {b = length c.loop-at.used} c.step-answer.auto.used o.used; marks = ◌∙◌ {b = length c.loop-at.marks} c.step-answer.auto.marks o.marks; inner = ◌∙◌ {b = length c.loop-at.inner} c.step-answer.auto.inner o.inner; header = ◌∙◌ {b = length c.loop-at.header} c.step-answer.auto.header o.header; scratch = ◌∙◌ {b = length c.loop-at.scratch} c.step-answer.auto.scratch o.scratch } in
-    turn-go _ _ _ _ _ _ _ _ _ _ _ _ _ _ c.loop-at.invariant _ c.next_line-seen.ensures c.if-seen-at.false _ c.both.ensures after c.step-answer.result c.step-answer.ensures _ c.within-did.ensures c.if-seen.false c.requires _ c.in-Ok.is _ _ c.put_done.ensures.0 c.put_done.ensures.1 _ c.own_after-own.ensures (same-on _ _ _ _ _ _ _ _ c.loop-at.invariant.lengths kept c.put_done.auto.t) (own_on _ _ _ own c.put_done.auto.scratch)
+    turn-go _ _ _ _ _ _ _ _ _ _ _ _ _ _ c.loop-at.invariant _ c.next_line-seen.ensures c.if-seen-at.false _ c.both.ensures after c.step-answer.result c.step-answer.ensures _ c.within-did.ensures c.if-seen.false c.requires _ c.in-Go.is _ _ c.put_done.ensures.0 c.put_done.ensures.1 _ c.own_after-own.ensures (same-on _ _ _ _ _ _ _ _ c.loop-at.invariant.lengths kept c.put_done.auto.t) (own_on _ _ _ own c.put_done.auto.scratch)
 
 pub enum_known-did-in-Skip-1 : goal.enum_known-did-in-Skip-1
 enum_known-did-in-Skip-1 c = search rules
@@ -142,7 +142,7 @@ pub enum_known-left : goal.enum_known-left
 enum_known-left c = search rules
 
 pub loop-at-smaller : goal.loop-at-smaller
-loop-at-smaller c = let m = seen-forward _ _ _ _ c.next_line-seen.ensures c.if-seen.false in let x = skipped-further _ _ _ _ _ _ c.skip_block-left.ensures c.in-Ok-left.is in omega (arith, m.0, m.1, x.1, x.2)
+loop-at-smaller c = let m = seen-forward _ _ _ _ c.next_line-seen.ensures c.if-seen.false in let x = skipped-further _ _ _ _ _ _ c.skip_block-left.ensures c.in-Ok.is in omega (arith, m.0, m.1, x.1, x.2)
 
 pub loop-at-preserved : goal.loop-at-preserved
 loop-at-preserved c =
@@ -152,39 +152,7 @@ loop-at-preserved c =
     let kept : SameLengths before after c.loop-at.t c.loop-at.t = record { tally = c.step-answer.auto.tally; symbols = c.step-answer.auto.symbols; layers = c.step-answer.auto.layers; serials = c.step-answer.auto.serials; used_all = c.step-answer.auto.used_all; table = refl } in
     let o = c.loop-at.invariant.arrays in
     let own : OwnLengths after = record { used = ◌∙◌ {b = length c.loop-at.used} c.step-answer.auto.used o.used; marks = ◌∙◌ {b = length c.loop-at.marks} c.step-answer.auto.marks o.marks; inner = ◌∙◌ {b = length c.loop-at.inner} c.step-answer.auto.inner o.inner; header = ◌∙◌ {b = length c.loop-at.header} c.step-answer.auto.header o.header; scratch = ◌∙◌ {b = length c.loop-at.scratch} c.step-answer.auto.scratch o.scratch } in
-    turn_skip _ _ _ _ _ _ _ _ _ _ _ _ _ _ c.loop-at.invariant _ c.next_line-seen.ensures c.if-seen-at.false _ c.both.ensures after c.step-answer.result c.step-answer.ensures _ c.within-did.ensures c.if-seen.false _ c.in-Skip.is _ c.skip_block-left.ensures _ c.in-Ok-left.is (same-on _ _ after _ _ _ _ _ c.loop-at.invariant.lengths kept refl) (own_on after _ _ own refl)
-
-pub enum_known-left-in-Err-1 : goal.enum_known-left-in-Err-1
-enum_known-left-in-Err-1 c = search rules
-
-pub shape_of-tally-in-Err-left : goal.shape_of-tally-in-Err-left
-shape_of-tally-in-Err-left c = c.step-answer.auto.tally ∙ c.loop-at.invariant.lengths.tally
-
-pub shape_of-symbols-in-Err-left : goal.shape_of-symbols-in-Err-left
-shape_of-symbols-in-Err-left c = c.step-answer.auto.symbols ∙ c.loop-at.invariant.lengths.symbols
-
-pub shape_of-layers-in-Err-left : goal.shape_of-layers-in-Err-left
-shape_of-layers-in-Err-left c = c.step-answer.auto.layers ∙ c.loop-at.invariant.lengths.layers
-
-pub shape_of-serials-in-Err-left : goal.shape_of-serials-in-Err-left
-shape_of-serials-in-Err-left c = c.step-answer.auto.serials ∙ c.loop-at.invariant.lengths.serials
-
-pub shape_of-used_all-in-Err-left : goal.shape_of-used_all-in-Err-left
-shape_of-used_all-in-Err-left c = c.step-answer.auto.used_all ∙ c.loop-at.invariant.lengths.used_all
-
-pub shape_of-t-in-Err-left : goal.shape_of-t-in-Err-left
-shape_of-t-in-Err-left c = c.loop-at.invariant.lengths.table
-
-pub returns-in-Err-left : goal.returns-in-Err-left
-returns-in-Err-left c =
-    let after = desk c.loop-at.here c.step-answer.new.tally c.step-answer.new.symbols c.step-answer.new.layers c.step-answer.new.serials c.step-answer.new.used c.step-answer.new.used_all c.step-answer.new.marks c.step-answer.new.inner c.step-answer.new.header c.step-answer.new.scratch in
-    turn-left _ _ _ _ _ _ _ _ _ _ _ _ _ _ c.loop-at.invariant _ c.next_line-seen.ensures c.if-seen-at.false _ c.both.ensures after c.step-answer.result c.step-answer.ensures _ c.within-did.ensures c.if-seen.false _ c.in-Skip.is _ c.skip_block-left.ensures _ c.in-Err-left.is (back_desk after) c.loop-at.t
-
-pub enum_known-did-in-Err-did : goal.enum_known-did-in-Err-did
-enum_known-did-in-Err-did c = search rules
-
-pub refused-requires-in-Err : goal.refused-requires-in-Err
-refused-requires-in-Err c = tt
+    turn_skip _ _ _ _ _ _ _ _ _ _ _ _ _ _ c.loop-at.invariant _ c.next_line-seen.ensures c.if-seen-at.false _ c.both.ensures after c.step-answer.result c.step-answer.ensures _ c.within-did.ensures c.if-seen.false _ c.in-Skip.is _ c.skip_block-left.ensures _ c.in-Ok.is (same-on _ _ after _ _ _ _ _ c.loop-at.invariant.lengths kept refl) (own_on after _ _ own refl)
 
 pub shape_of-tally-in-Err : goal.shape_of-tally-in-Err
 shape_of-tally-in-Err c = c.step-answer.auto.tally ∙ c.loop-at.invariant.lengths.tally
@@ -207,4 +175,30 @@ shape_of-t-in-Err c = c.loop-at.invariant.lengths.table
 pub returns-in-Err : goal.returns-in-Err
 returns-in-Err c =
     let after = desk c.loop-at.here c.step-answer.new.tally c.step-answer.new.symbols c.step-answer.new.layers c.step-answer.new.serials c.step-answer.new.used c.step-answer.new.used_all c.step-answer.new.marks c.step-answer.new.inner c.step-answer.new.header c.step-answer.new.scratch in
-    turn-stop _ _ _ _ _ _ _ _ _ _ _ _ _ _ c.loop-at.invariant _ c.next_line-seen.ensures c.if-seen-at.false _ c.both.ensures after c.step-answer.result c.step-answer.ensures _ c.within-did.ensures c.if-seen.false _ c.in-Err.is _ _ _ c.refused-in-Err.ensures
+    turn-left _ _ _ _ _ _ _ _ _ _ _ _ _ _ c.loop-at.invariant _ c.next_line-seen.ensures c.if-seen-at.false _ c.both.ensures after c.step-answer.result c.step-answer.ensures _ c.within-did.ensures c.if-seen.false _ c.in-Skip.is _ c.skip_block-left.ensures _ c.in-Err.is (back_desk after) c.loop-at.t
+
+pub refused-requires-in-Stop : goal.refused-requires-in-Stop
+refused-requires-in-Stop c = tt
+
+pub shape_of-tally-in-Stop : goal.shape_of-tally-in-Stop
+shape_of-tally-in-Stop c = c.step-answer.auto.tally ∙ c.loop-at.invariant.lengths.tally
+
+pub shape_of-symbols-in-Stop : goal.shape_of-symbols-in-Stop
+shape_of-symbols-in-Stop c = c.step-answer.auto.symbols ∙ c.loop-at.invariant.lengths.symbols
+
+pub shape_of-layers-in-Stop : goal.shape_of-layers-in-Stop
+shape_of-layers-in-Stop c = c.step-answer.auto.layers ∙ c.loop-at.invariant.lengths.layers
+
+pub shape_of-serials-in-Stop : goal.shape_of-serials-in-Stop
+shape_of-serials-in-Stop c = c.step-answer.auto.serials ∙ c.loop-at.invariant.lengths.serials
+
+pub shape_of-used_all-in-Stop : goal.shape_of-used_all-in-Stop
+shape_of-used_all-in-Stop c = c.step-answer.auto.used_all ∙ c.loop-at.invariant.lengths.used_all
+
+pub shape_of-t-in-Stop : goal.shape_of-t-in-Stop
+shape_of-t-in-Stop c = c.loop-at.invariant.lengths.table
+
+pub returns-in-Stop : goal.returns-in-Stop
+returns-in-Stop c =
+    let after = desk c.loop-at.here c.step-answer.new.tally c.step-answer.new.symbols c.step-answer.new.layers c.step-answer.new.serials c.step-answer.new.used c.step-answer.new.used_all c.step-answer.new.marks c.step-answer.new.inner c.step-answer.new.header c.step-answer.new.scratch in
+    turn-stop _ _ _ _ _ _ _ _ _ _ _ _ _ _ c.loop-at.invariant _ c.next_line-seen.ensures c.if-seen-at.false _ c.both.ensures after c.step-answer.result c.step-answer.ensures _ c.within-did.ensures c.if-seen.false _ c.in-Stop.is _ _ _ c.refused-in-Stop.ensures
