@@ -2,38 +2,7 @@ use Rattle.std.specs.Prelude.{Ok}
 use mathlib.Core.Path.{refl}
 use Rattle.rules.specs.declared.LineForm.TheVariants.{Ignored, Close, Eof, Opens, Equals, Refused}
 use Rattle.volumes.proofs.LineLaws.{line_same}
-use borrow.Author.Rules.{rules}
 use Rattle.volumes.proofs.on_line.Goals as goal
-
-pub enum_told-1 : goal.enum_told-1
-enum_told-1 c = search rules
-
-pub enum_told-in-Refused : goal.enum_told-in-Refused
-enum_told-in-Refused c = search rules
-
-pub enum_told-in-Close : goal.enum_told-in-Close
-enum_told-in-Close c = search rules
-
-pub on_close-requires : goal.on_close-requires
-on_close-requires c = search rules
-
-pub enum_told-in-Eof : goal.enum_told-in-Eof
-enum_told-in-Eof c = search rules
-
-pub on_eof-requires : goal.on_eof-requires
-on_eof-requires c = search rules
-
-pub enum_known-form : goal.enum_known-form
-enum_known-form c = search rules
-
-pub on_key-requires : goal.on_key-requires
-on_key-requires c = search rules
-
-pub enum_known-form-in-Equals-1 : goal.enum_known-form-in-Equals-1
-enum_known-form-in-Equals-1 c = search rules
-
-pub on_key-requires-in-Equals : goal.on_key-requires-in-Equals
-on_key-requires-in-Equals c = search rules
 
 pub returns-in-Ignored : goal.returns-in-Ignored
 returns-in-Ignored c =
@@ -45,41 +14,20 @@ returns-in-Refused c =
     let a = c.args in
     (record { safe = c.requires.0; long = refl }, c.requires.1, line_same a.s.now a.body.now a.start a.from a.first a.form (Refused _) a.pen a.notes.now a.notes.now a.out.now a.out.now (Ok a.pen) c.in-Refused.is refl c.requires.1 tt)
 
-pub shape_of-notes-in-Close : goal.shape_of-notes-in-Close
-shape_of-notes-in-Close c = search rules
-
-pub shape_of-out-in-Close : goal.shape_of-out-in-Close
-shape_of-out-in-Close c = search rules
-
 pub returns-in-Close : goal.returns-in-Close
 returns-in-Close c =
     let a = c.args in
     (c.on_close.ensures.0, c.requires.1, line_same a.s.now a.body.now a.start a.from a.first a.form Close a.pen a.notes.now a.notes.now a.out.now _ c.on_close.result c.in-Close.is c.on_close.ensures.0.long c.requires.1 (c.on_close.ensures.1, c.on_close.ensures.2, refl))
-
-pub shape_of-out-in-Eof : goal.shape_of-out-in-Eof
-shape_of-out-in-Eof c = search rules
 
 pub returns-in-Eof : goal.returns-in-Eof
 returns-in-Eof c =
     let a = c.args in
     (c.on_eof.ensures.0, c.requires.1, line_same a.s.now a.body.now a.start a.from a.first a.form Eof a.pen a.notes.now a.notes.now a.out.now _ c.on_eof.result c.in-Eof.is c.on_eof.ensures.0.long c.requires.1 (c.on_eof.ensures.1, refl))
 
-pub shape_of-notes-in-Opens : goal.shape_of-notes-in-Opens
-shape_of-notes-in-Opens c = search rules
-
-pub shape_of-out-in-Opens : goal.shape_of-out-in-Opens
-shape_of-out-in-Opens c = search rules
-
 pub returns-in-Opens : goal.returns-in-Opens
 returns-in-Opens c =
     let a = c.args in
     (c.on_key.ensures.0, c.on_key.ensures.1, line_same a.s.now a.body.now a.start a.from a.first a.form (Opens _) a.pen a.notes.now _ a.out.now _ c.on_key.result c.in-Opens.is c.on_key.ensures.0.long c.on_key.ensures.1 c.on_key.ensures.2)
-
-pub shape_of-notes-in-Equals : goal.shape_of-notes-in-Equals
-shape_of-notes-in-Equals c = search rules
-
-pub shape_of-out-in-Equals : goal.shape_of-out-in-Equals
-shape_of-out-in-Equals c = search rules
 
 pub returns-in-Equals : goal.returns-in-Equals
 returns-in-Equals c =

@@ -8,17 +8,10 @@ use lib.ListN.{length}
 use Rattle.pens.proofs.LinesLeft.{fewer-none, fewer}
 use Rattle.volumes.proofs.VolumeWalk.{walk_begins, walk_ends, walk-on, walk-short}
 use Rattle.volumes.proofs.VolumeEnd.{body_promise, body-short, body-wrote, body_unwrote}
-use borrow.Author.Rules.{rules}
 use Rattle.volumes.proofs.put_body.Goals as goal
 
 pub loop-going-init : goal.loop-going-init
 loop-going-init c = walk_begins _ _ _ _ _ _ c.requires
-
-pub look-requires : goal.look-requires
-look-requires c = search rules
-
-pub enum_told-1 : goal.enum_told-1
-enum_told-1 c = search rules
 
 pub loop-going-smaller-in-None : goal.loop-going-smaller-in-None
 loop-going-smaller-in-None c = fewer-none (c.args.start + length c.args.body.now) c.loop-going.at c.loop-going.going c.loop-going-test.true
@@ -26,20 +19,8 @@ loop-going-smaller-in-None c = fewer-none (c.args.start + length c.args.body.now
 pub loop-going-preserved-in-None : goal.loop-going-preserved-in-None
 loop-going-preserved-in-None c = walk_ends _ _ _ _ _ _ _ _ _ _ _ c.loop-going.invariant (sym c.look.ensures ∙ c.in-None.is)
 
-pub enum_known-seen : goal.enum_known-seen
-enum_known-seen c = search rules
-
-pub wire_from-began-requires : goal.wire_from-began-requires
-wire_from-began-requires c = search rules
-
 pub on_line-requires : goal.on_line-requires
 on_line-requires c = (c.loop-going.invariant.safe, c.loop-going.invariant.many)
-
-pub enum_known-p : goal.enum_known-p
-enum_known-p c = search rules
-
-pub enum_told-in-Err : goal.enum_told-in-Err
-enum_told-in-Err c = search rules
 
 pub shape_of-notes-in-Err : goal.shape_of-notes-in-Err
 shape_of-notes-in-Err c = c.on_line.ensures.1 ∙ sym c.requires
@@ -69,15 +50,6 @@ slice_bounds-put-start c = omega (arith, c.loop-going.invariant.safe.within)
 
 pub slice_bounds-put-end-2 : goal.slice_bounds-put-end-2
 slice_bounds-put-end-2 c = omega (arith, c.loop-going.invariant.safe.within)
-
-pub put-requires : goal.put-requires
-put-requires c = search rules
-
-pub enum_known-n : goal.enum_known-n
-enum_known-n c = search rules
-
-pub enum_told-in_default : goal.enum_told-in_default
-enum_told-in_default c = search rules
 
 pub shape_of-notes-in_default : goal.shape_of-notes-in_default
 shape_of-notes-in_default c = c.loop-going.invariant.many ∙ sym c.requires

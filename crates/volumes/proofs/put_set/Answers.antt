@@ -1,15 +1,8 @@
 use mathlib.Core.Path.{refl, ◌∙◌}
 use native.Mathlib.Omega.{arith}
-use borrow.Author.Rules.{rules}
 use Rattle.volumes.proofs.LentOutput.{within-long, lent-room}
 use Rattle.volumes.proofs.SetLoop.{few, begins, goes_on, room-lacks, ends}
 use Rattle.volumes.proofs.put_set.Goals as goal
-
-pub volumes-l-requires : goal.volumes-l-requires
-volumes-l-requires c = tt
-
-pub overflow_cast-count : goal.overflow_cast-count
-overflow_cast-count c = omega arith
 
 pub loop-i-init : goal.loop-i-init
 loop-i-init c = begins _ _ _ refl
@@ -26,29 +19,11 @@ offset_bounds-l-i-in-loop-i c = omega (arith, few _ _ _ c.volumes-l.ensures c.lo
 pub bounds-l-i-in-loop-i : goal.bounds-l-i-in-loop-i
 bounds-l-i-in-loop-i c = few _ _ _ c.volumes-l.ensures c.loop-i-test.true
 
-pub part-body-requires : goal.part-body-requires
-part-body-requires c = search rules
-
-pub slice_bounds-put_volume-end : goal.slice_bounds-put_volume-end
-slice_bounds-put_volume-end c = search rules
-
 pub slice_bounds-put_volume-count : goal.slice_bounds-put_volume-count
 slice_bounds-put_volume-count c = c.loop-i.invariant.fits
 
-pub slice_bounds-put_volume-start : goal.slice_bounds-put_volume-start
-slice_bounds-put_volume-start c = search rules
-
-pub slice_bounds-put_volume-end-in-loop-i : goal.slice_bounds-put_volume-end-in-loop-i
-slice_bounds-put_volume-end-in-loop-i c = search rules
-
 pub put_volume-wrote-requires : goal.put_volume-wrote-requires
 put_volume-wrote-requires c = c.loop-i.invariant.many
-
-pub enum_known-wrote : goal.enum_known-wrote
-enum_known-wrote c = search rules
-
-pub enum_told-1 : goal.enum_told-1
-enum_told-1 c = search rules
 
 pub shape_of-out-in_default : goal.shape_of-out-in_default
 shape_of-out-in_default c = within-long _ _ c.loop-i.invariant.fits _ _ c.put_volume-wrote.ensures.0 ∙ c.loop-i.invariant.long

@@ -4,35 +4,10 @@ use native.Mathlib.Omega.{arith}
 use Rattle.pens.proofs.Behind.{within-full}
 use Rattle.volumes.proofs.LentOutput.{bytes-within, within-long, lent-room}
 use Rattle.volumes.proofs.Heads.{name-short, volume-narrow, volume-full, volume-kept, volume-wrote, volume_promise}
-use borrow.Author.Rules.{rules}
 use Rattle.volumes.proofs.put_volume.Goals as goal
 
 pub returns-then-out-lt12 : goal.returns-then-out-lt12
 returns-then-out-lt12 c = (within-full _ _ refl, c.requires, λ K e v next ls s st k a b g. volume-narrow K _ _ (name-short c.args.s.now c.args.start) st _ _ c.if-out-lt12.true)
-
-pub slice_bounds-put_body-count : goal.slice_bounds-put_body-count
-slice_bounds-put_body-count c = search rules
-
-pub slice_bounds-put_body-start : goal.slice_bounds-put_body-start
-slice_bounds-put_body-start c = search rules
-
-pub slice_bounds-put_body-end : goal.slice_bounds-put_body-end
-slice_bounds-put_body-end c = search rules
-
-pub put_body-requires : goal.put_body-requires
-put_body-requires c = search rules
-
-pub enum_known-n : goal.enum_known-n
-enum_known-n c = search rules
-
-pub enum_told-1 : goal.enum_told-1
-enum_told-1 c = search rules
-
-pub shape_of-notes-in_default : goal.shape_of-notes-in_default
-shape_of-notes-in_default c = search rules
-
-pub shape_of-out-in_default : goal.shape_of-out-in_default
-shape_of-out-in_default c = search rules
 
 pub returns-in_default : goal.returns-in_default
 returns-in_default c = (
@@ -41,20 +16,11 @@ returns-in_default c = (
   volume_promise _ _ _ _ _ _ _ _ _ _ c.put_body.ensures.2 (λ K st w. volume-full K _ _ (name-short c.args.s.now c.args.start) st _ _ c.if-out-lt12.false _ (rw c.in_default.is at w)),
 )
 
-pub volume_name-requires : goal.volume_name-requires
-volume_name-requires c = search rules
-
 pub put_head-requires : goal.put_head-requires
 put_head-requires c = (rw c.volume_name.ensures (name-short c.args.s.now c.args.start), omega (arith, within-long 12 c.args.out.now c.if-out-lt12.false _ _ c.put_body.ensures.0, c.if-out-lt12.false))
 
 pub overflow_add-result : goal.overflow_add-result
 overflow_add-result c = omega (arith, lent-room 12 c.args.out.now c.if-out-lt12.false _ _ _ c.put_body.ensures.0 c.in-Ok.is)
-
-pub shape_of-notes : goal.shape_of-notes
-shape_of-notes c = search rules
-
-pub shape_of-out : goal.shape_of-out
-shape_of-out c = search rules
 
 pub returns : goal.returns
 returns c =

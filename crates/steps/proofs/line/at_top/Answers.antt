@@ -1,6 +1,5 @@
 use native.Mathlib.Omega.{arith}
 use Rattle.standing.proofs.StepParts.{tally_9, tally_10, names-fit, ids-fit, names-count, ids-count, names-most, ids-most, lent-long, lends, top_back}
-use borrow.Author.Rules.{rules}
 use Rattle.steps.proofs.line.at_top.Goals as goal
 
 pub bounds-tally-9 : goal.bounds-tally-9
@@ -21,12 +20,6 @@ slice_bounds-on_top-end c = names-count c.requires.1
 pub slice_bounds-on_top-end-2 : goal.slice_bounds-on_top-end-2
 slice_bounds-on_top-end-2 c = ids-count c.requires.1
 
-pub slice_bounds-on_top-count : goal.slice_bounds-on_top-count
-slice_bounds-on_top-count c = omega arith
-
-pub slice_bounds-on_top-start : goal.slice_bounds-on_top-start
-slice_bounds-on_top-start c = omega arith
-
 pub slice_bounds-on_top-end-3 : goal.slice_bounds-on_top-end-3
 slice_bounds-on_top-end-3 c = omega (arith, c.requires.4)
 
@@ -35,18 +28,6 @@ on_top-did-requires c = (c.requires.0, names-most c.requires.1, ids-most c.requi
 
 pub partners_met-requires : goal.partners_met-requires
 partners_met-requires c = (c.requires.0, c.requires.1.twelve, c.requires.6.count, c.requires.6.ordered)
-
-pub shape_of-used : goal.shape_of-used
-shape_of-used c = search rules
-
-pub shape_of-marks : goal.shape_of-marks
-shape_of-marks c = search rules
-
-pub shape_of-header : goal.shape_of-header
-shape_of-header c = search rules
-
-pub shape_of-t : goal.shape_of-t
-shape_of-t c = search rules
 
 pub returns : goal.returns
 returns c = top_back _ _ _ _ _ _ _ _ _ _ _ _ _ _ _ _ (lends 0 _ _ _ c.on_top-did.ensures) c.partners_met.ensures

@@ -1,6 +1,5 @@
 use native.Mathlib.Omega.{arith}
 use Rattle.standing.proofs.StepParts.{tally_9, tally_10, names-fit, ids-fit, names-count, ids-count, names-most, ids-most, lent-long, lends-chain}
-use borrow.Author.Rules.{rules}
 use Rattle.steps.proofs.line.in_chain.Goals as goal
 
 pub bounds-tally-9 : goal.bounds-tally-9
@@ -21,20 +20,11 @@ slice_bounds-on_chain-end c = names-count c.requires.1
 pub slice_bounds-on_chain-end-2 : goal.slice_bounds-on_chain-end-2
 slice_bounds-on_chain-end-2 c = ids-count c.requires.1
 
-pub slice_bounds-on_chain-count : goal.slice_bounds-on_chain-count
-slice_bounds-on_chain-count c = omega arith
-
-pub slice_bounds-on_chain-start : goal.slice_bounds-on_chain-start
-slice_bounds-on_chain-start c = omega arith
-
 pub slice_bounds-on_chain-end-3 : goal.slice_bounds-on_chain-end-3
 slice_bounds-on_chain-end-3 c = omega (arith, c.requires.4)
 
 pub on_chain-requires : goal.on_chain-requires
 on_chain-requires c = (c.requires.0, names-most c.requires.1, ids-most c.requires.1, c.requires.2, c.requires.3, c.requires.5, lent-long 32 64 c.args.t.now (omega arith) c.requires.4)
-
-pub shape_of-t : goal.shape_of-t
-shape_of-t c = search rules
 
 pub returns : goal.returns
 returns c = lends-chain _ _ _ c.requires.4 c.on_chain.ensures

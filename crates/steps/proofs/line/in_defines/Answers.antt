@@ -1,6 +1,5 @@
 use native.Mathlib.Omega.{arith}
 use Rattle.standing.proofs.StepParts.{tally_2, tally_9, tally_10, names-fit, ids-fit, names-count, ids-count, names-most, ids-most, lent-long, lends}
-use borrow.Author.Rules.{rules}
 use Rattle.steps.proofs.line.in_defines.Goals as goal
 
 pub bounds-tally-9 : goal.bounds-tally-9
@@ -24,23 +23,11 @@ slice_bounds-on_defines-end c = names-count c.requires.1
 pub slice_bounds-on_defines-end-2 : goal.slice_bounds-on_defines-end-2
 slice_bounds-on_defines-end-2 c = ids-count c.requires.1
 
-pub slice_bounds-on_defines-count : goal.slice_bounds-on_defines-count
-slice_bounds-on_defines-count c = omega arith
-
-pub slice_bounds-on_defines-start : goal.slice_bounds-on_defines-start
-slice_bounds-on_defines-start c = omega arith
-
 pub slice_bounds-on_defines-end-3 : goal.slice_bounds-on_defines-end-3
 slice_bounds-on_defines-end-3 c = omega (arith, c.requires.2)
 
 pub on_defines-requires : goal.on_defines-requires
 on_defines-requires c = (c.requires.0, names-most c.requires.1, ids-most c.requires.1, lent-long 0 32 c.args.t.now (omega arith) c.requires.2, c.requires.3)
-
-pub shape_of-marks : goal.shape_of-marks
-shape_of-marks c = search rules
-
-pub shape_of-t : goal.shape_of-t
-shape_of-t c = search rules
 
 pub returns : goal.returns
 returns c = lends 0 _ _ _ c.on_defines.ensures

@@ -1,6 +1,5 @@
 use native.Mathlib.Omega.{arith}
 use Rattle.standing.proofs.StepParts.{tally_0, tally_9, names-fit, names-count, names-most, lent-long, lends}
-use borrow.Author.Rules.{rules}
 use Rattle.steps.proofs.line.in_drawing.Goals as goal
 
 pub bounds-tally-9 : goal.bounds-tally-9
@@ -15,26 +14,11 @@ bounds-tally-0 c = tally_0 c.requires.1
 pub slice_bounds-on_drawing-end : goal.slice_bounds-on_drawing-end
 slice_bounds-on_drawing-end c = names-count c.requires.1
 
-pub slice_bounds-on_drawing-end-2 : goal.slice_bounds-on_drawing-end-2
-slice_bounds-on_drawing-end-2 c = search rules
-
-pub slice_bounds-on_drawing-count : goal.slice_bounds-on_drawing-count
-slice_bounds-on_drawing-count c = omega arith
-
-pub slice_bounds-on_drawing-start : goal.slice_bounds-on_drawing-start
-slice_bounds-on_drawing-start c = omega arith
-
 pub slice_bounds-on_drawing-end-3 : goal.slice_bounds-on_drawing-end-3
 slice_bounds-on_drawing-end-3 c = omega (arith, c.requires.3)
 
 pub on_drawing-requires : goal.on_drawing-requires
 on_drawing-requires c = (c.requires.0, names-most c.requires.1, omega arith, c.requires.2, lent-long 0 32 c.args.t.now (omega arith) c.requires.3)
-
-pub shape_of-marks : goal.shape_of-marks
-shape_of-marks c = search rules
-
-pub shape_of-t : goal.shape_of-t
-shape_of-t c = search rules
 
 pub returns : goal.returns
 returns c = lends 0 _ _ _ c.on_drawing.ensures

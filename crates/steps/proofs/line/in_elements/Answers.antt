@@ -1,5 +1,4 @@
 use Rattle.standing.proofs.StepParts.{tally_9, tally_10, names-fit, ids-fit, names-count, ids-count, names-most, ids-few}
-use borrow.Author.Rules.{rules}
 use Rattle.steps.proofs.line.in_elements.Goals as goal
 
 pub bounds-tally-9 : goal.bounds-tally-9
@@ -22,15 +21,6 @@ slice_bounds-on_elements-end-2 c = ids-count c.requires.1
 
 pub on_elements-requires : goal.on_elements-requires
 on_elements-requires c = (c.requires.0, names-most c.requires.1, ids-few c.requires.1, c.requires.1.twelve, c.requires.2, c.requires.3, c.requires.4)
-
-pub shape_of-tally : goal.shape_of-tally
-shape_of-tally c = search rules
-
-pub shape_of-used : goal.shape_of-used
-shape_of-used c = search rules
-
-pub shape_of-used_all : goal.shape_of-used_all
-shape_of-used_all c = search rules
 
 pub returns : goal.returns
 returns c = c.on_elements.ensures

@@ -1,5 +1,4 @@
 use Rattle.standing.proofs.StepParts.{tally_9, tally_10, names-fit, ids-fit, names-count, ids-count, names-most, ids-most}
-use borrow.Author.Rules.{rules}
 use Rattle.steps.proofs.line.in_file.Goals as goal
 
 pub bounds-tally-9 : goal.bounds-tally-9
@@ -22,15 +21,6 @@ slice_bounds-on_file-end-2 c = ids-count c.requires.1
 
 pub on_file-requires : goal.on_file-requires
 on_file-requires c = (c.requires.0, names-most c.requires.1, ids-most c.requires.1, c.requires.2)
-
-pub shape_of-tally : goal.shape_of-tally
-shape_of-tally c = search rules
-
-pub shape_of-marks : goal.shape_of-marks
-shape_of-marks c = search rules
-
-pub shape_of-header : goal.shape_of-header
-shape_of-header c = search rules
 
 pub returns : goal.returns
 returns c = c.on_file.ensures

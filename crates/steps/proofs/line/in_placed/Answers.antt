@@ -1,6 +1,5 @@
 use native.Mathlib.Omega.{arith}
 use Rattle.standing.proofs.StepParts.{tally_1, tally_9, tally_10, names-fit, ids-fit, names-count, ids-count, names-most, ids-most, lends, lent-long}
-use borrow.Author.Rules.{rules}
 use Rattle.steps.proofs.line.in_placed.Goals as goal
 
 pub bounds-tally-9 : goal.bounds-tally-9
@@ -24,32 +23,11 @@ slice_bounds-on_placed-end c = names-count c.requires.1
 pub slice_bounds-on_placed-end-2 : goal.slice_bounds-on_placed-end-2
 slice_bounds-on_placed-end-2 c = ids-count c.requires.1
 
-pub slice_bounds-on_placed-count : goal.slice_bounds-on_placed-count
-slice_bounds-on_placed-count c = omega arith
-
-pub slice_bounds-on_placed-start : goal.slice_bounds-on_placed-start
-slice_bounds-on_placed-start c = omega arith
-
 pub slice_bounds-on_placed-end-3 : goal.slice_bounds-on_placed-end-3
 slice_bounds-on_placed-end-3 c = omega (arith, c.requires.4)
 
 pub on_placed-requires : goal.on_placed-requires
 on_placed-requires c = (c.requires.0, names-most c.requires.1, ids-most c.requires.1, c.requires.2, lent-long 32 32 c.args.t.now (omega arith) c.requires.4, c.requires.3)
-
-pub shape_of-tally : goal.shape_of-tally
-shape_of-tally c = search rules
-
-pub shape_of-serials : goal.shape_of-serials
-shape_of-serials c = search rules
-
-pub shape_of-marks : goal.shape_of-marks
-shape_of-marks c = search rules
-
-pub shape_of-inner : goal.shape_of-inner
-shape_of-inner c = search rules
-
-pub shape_of-t : goal.shape_of-t
-shape_of-t c = search rules
 
 pub returns : goal.returns
 returns c = lends 32 _ _ _ c.on_placed.ensures

@@ -1,7 +1,6 @@
 use mathlib.Core.Path.{◌∙◌}
 use native.Mathlib.Omega.{arith}
 use Rattle.standing.proofs.StepParts.{tally_2, tally_9, tally_10, names-fit, ids-fit, names-count, ids-count, names-most, ids-most, lent-long, kept_asks, symbol-keeps}
-use borrow.Author.Rules.{rules}
 use Rattle.steps.proofs.line.in_symbol.Goals as goal
 
 pub bounds-tally-9 : goal.bounds-tally-9
@@ -28,41 +27,14 @@ slice_bounds-on_symbol-end-2 c = names-count c.requires.1
 pub slice_bounds-on_symbol-end-3 : goal.slice_bounds-on_symbol-end-3
 slice_bounds-on_symbol-end-3 c = ids-count c.requires.1
 
-pub slice_bounds-on_symbol-count : goal.slice_bounds-on_symbol-count
-slice_bounds-on_symbol-count c = omega arith
-
-pub slice_bounds-on_symbol-start : goal.slice_bounds-on_symbol-start
-slice_bounds-on_symbol-start c = omega arith
-
 pub slice_bounds-on_symbol-end-4 : goal.slice_bounds-on_symbol-end-4
 slice_bounds-on_symbol-end-4 c = omega (arith, c.requires.4)
 
 pub on_symbol-r-requires : goal.on_symbol-r-requires
 on_symbol-r-requires c = (c.requires.0, names-most c.requires.1, ids-most c.requires.1, c.requires.3.marks, lent-long 0 32 c.args.t.now (omega arith) c.requires.4, c.requires.3.content)
 
-pub slice_bounds-name_kept-count : goal.slice_bounds-name_kept-count
-slice_bounds-name_kept-count c = omega arith
-
-pub slice_bounds-name_kept-start : goal.slice_bounds-name_kept-start
-slice_bounds-name_kept-start c = omega arith
-
-pub slice_bounds-name_kept-end : goal.slice_bounds-name_kept-end
-slice_bounds-name_kept-end c = search rules
-
 pub name_kept-requires : goal.name_kept-requires
 name_kept-requires c = kept_asks _ _ _ _ _ _ c.requires.1 c.requires.2 _ _ c.requires.3 c.on_symbol-r.new.marks c.on_symbol-r.new.rec c.on_symbol-r.result c.on_symbol-r.ensures (c.on_symbol-r.auto.rec ∙ lent-long 0 32 c.args.t.now (omega arith) c.requires.4)
-
-pub shape_of-tally : goal.shape_of-tally
-shape_of-tally c = search rules
-
-pub shape_of-symbols : goal.shape_of-symbols
-shape_of-symbols c = search rules
-
-pub shape_of-marks : goal.shape_of-marks
-shape_of-marks c = search rules
-
-pub shape_of-t : goal.shape_of-t
-shape_of-t c = search rules
 
 pub returns : goal.returns
 returns c = symbol-keeps _ _ _ _ _ _ c.requires.1 c.requires.2 _ _ c.requires.3 c.on_symbol-r.new.marks c.on_symbol-r.new.rec c.on_symbol-r.result c.on_symbol-r.ensures (c.on_symbol-r.auto.rec ∙ lent-long 0 32 c.args.t.now (omega arith) c.requires.4) c.name_kept.new.tally c.name_kept.new.symbols c.name_kept.result c.name_kept.ensures

@@ -1,6 +1,5 @@
 use native.Mathlib.Omega.{arith}
 use Rattle.standing.proofs.StepParts.{tally_9, tally_10, names-fit, ids-fit, names-count, ids-count, names-most, ids-most, lent-long, lends}
-use borrow.Author.Rules.{rules}
 use Rattle.steps.proofs.line.in_text.Goals as goal
 
 pub bounds-tally-9 : goal.bounds-tally-9
@@ -21,23 +20,11 @@ slice_bounds-on_text-end c = names-count c.requires.1
 pub slice_bounds-on_text-end-2 : goal.slice_bounds-on_text-end-2
 slice_bounds-on_text-end-2 c = ids-count c.requires.1
 
-pub slice_bounds-on_text-count : goal.slice_bounds-on_text-count
-slice_bounds-on_text-count c = omega arith
-
-pub slice_bounds-on_text-start : goal.slice_bounds-on_text-start
-slice_bounds-on_text-start c = omega arith
-
 pub slice_bounds-on_text-end-3 : goal.slice_bounds-on_text-end-3
 slice_bounds-on_text-end-3 c = omega (arith, c.requires.4)
 
 pub on_text-requires : goal.on_text-requires
 on_text-requires c = (c.requires.0, names-most c.requires.1, ids-most c.requires.1, c.requires.2, c.requires.3, lent-long 32 32 c.args.t.now (omega arith) c.requires.4)
-
-pub shape_of-inner : goal.shape_of-inner
-shape_of-inner c = search rules
-
-pub shape_of-t : goal.shape_of-t
-shape_of-t c = search rules
 
 pub returns : goal.returns
 returns c = lends 32 _ _ _ c.on_text.ensures

@@ -2,7 +2,6 @@ use Prim.Native.Nat.{ℕ}
 use mathlib.Core.List.{List}
 use mathlib.Core.Path.{◌≡◌, sym, ◌∙◌, ap}
 use borrow.Author.Tests.{eq-eqb, ne_eqb}
-use borrow.Author.Rules.{rules}
 use Rattle.account.specs.declared.Now.{Now}
 use Rattle.account.specs.declared.Step.{Step}
 use Rattle.account.specs.declared.Step.TheVariants as S
@@ -17,20 +16,8 @@ counted n t u did g b e = e ∙ sym (ap (tally_after t) g ∙ rw (eq-eqb n.block
 uncounted : (n : Now) (t : List ℕ) (did : Step) → did ≡ S.Go n → (n.block ≡ 7 → ⊥) → t ≡ tally_after t did
 uncounted n t did g b = sym (ap (tally_after t) g ∙ rw (ne_eqb n.block 7 b))
 
-pub enum_known-did : goal.enum_known-did
-enum_known-did c = search rules
-
 pub count_layer-requires : goal.count_layer-requires
 count_layer-requires c = (c.requires.0, c.requires.1 c.in-Go.n c.in-Go.is c.if-n-eq-BLOCK_ELEMENTS.true)
-
-pub enum_known-did-in-Skip-1 : goal.enum_known-did-in-Skip-1
-enum_known-did-in-Skip-1 c = search rules
-
-pub enum_known-did-in-Stop-1 : goal.enum_known-did-in-Stop-1
-enum_known-did-in-Stop-1 c = search rules
-
-pub shape_of-tally : goal.shape_of-tally
-shape_of-tally c = search rules
 
 pub returns-then-n-eq-BLOCK_ELEMENTS : goal.returns-then-n-eq-BLOCK_ELEMENTS
 returns-then-n-eq-BLOCK_ELEMENTS c = (sym c.in-Go.is, counted c.in-Go.n _ _ _ c.in-Go.is c.if-n-eq-BLOCK_ELEMENTS.true c.count_layer.ensures)

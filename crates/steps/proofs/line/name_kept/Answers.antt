@@ -4,7 +4,6 @@ use mathlib.Core.Path.{◌≡◌, sym, ◌∙◌, ap}
 use lib.IntN.{ℤ}
 use lib.ListN.{get_or, set}
 use borrow.Author.Tests.{eq-eqb, ne_eqb}
-use borrow.Author.Rules.{rules}
 use Rattle.account.specs.declared.Now.{Now}
 use Rattle.account.specs.declared.Step.{Step}
 use Rattle.account.specs.declared.Step.TheVariants as S
@@ -27,23 +26,8 @@ tally-left n t did g b = sym (ap (tally_named t) g ∙ rw (ne_eqb n.block 4 b))
 symbols-left : (n : Now) (t : List ℕ) (rec : List ℤ) (s : List ℕ) (did : Step) → did ≡ S.Go n → (n.block ≡ 4 → ⊥) → s ≡ symbols_named t rec s did
 symbols-left n t rec s did g b = sym (ap (symbols_named t rec s) g ∙ rw (ne_eqb n.block 4 b))
 
-pub enum_known-did : goal.enum_known-did
-enum_known-did c = search rules
-
 pub keep_name-requires : goal.keep_name-requires
 keep_name-requires c = (c.requires.0, (c.requires.3 c.in-Go.n c.in-Go.is c.if-n-eq-BLOCK_DEFINES.true).0, c.requires.1, c.requires.2, (c.requires.3 c.in-Go.n c.in-Go.is c.if-n-eq-BLOCK_DEFINES.true).1)
-
-pub enum_known-did-in-Skip-1 : goal.enum_known-did-in-Skip-1
-enum_known-did-in-Skip-1 c = search rules
-
-pub enum_known-did-in-Stop-1 : goal.enum_known-did-in-Stop-1
-enum_known-did-in-Stop-1 c = search rules
-
-pub shape_of-tally : goal.shape_of-tally
-shape_of-tally c = search rules
-
-pub shape_of-symbols : goal.shape_of-symbols
-shape_of-symbols c = search rules
 
 pub returns-then-n-eq-BLOCK_DEFINES : goal.returns-then-n-eq-BLOCK_DEFINES
 returns-then-n-eq-BLOCK_DEFINES c = (sym c.in-Go.is, tally-named c.in-Go.n _ _ _ c.in-Go.is c.if-n-eq-BLOCK_DEFINES.true c.keep_name.ensures.1, symbols-named c.in-Go.n c.args.tally.now c.args.rec.now c.args.symbols.now _ _ c.in-Go.is c.if-n-eq-BLOCK_DEFINES.true c.keep_name.ensures.0)

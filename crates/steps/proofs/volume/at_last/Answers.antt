@@ -2,7 +2,6 @@ use Prim.Native.Nat.{ℕ, ◌<◌, ◌≤◌, min}
 use mathlib.Core.Bool.{Bool, false}
 use mathlib.Core.Path.{◌≡◌, sym, ◌∙◌, ap}
 use native.Mathlib.Omega.{arith}
-use borrow.Author.Rules.{rules}
 use Rattle.account.specs.declared.Step.{Step}
 use Rattle.account.specs.declared.Step.TheVariants as S
 use Rattle.steps.specs.VolumeLines.{last_step}
@@ -15,20 +14,8 @@ own k complete did e f h = let m : min k 9 ≡ k = omega (arith, h) in sym (ap (
 nine : (k : ℕ) (complete : Bool) (did : Step) → did ≡ S.Stop k → complete ≡ false → 9 < k → S.Stop 9 ≡ last_step complete did
 nine k complete did e f h = let m : min k 9 ≡ 9 = omega (arith, h) in sym (ap (last_step complete) e ∙ rw (f, m))
 
-pub enum_known-did : goal.enum_known-did
-enum_known-did c = search rules
-
-pub next_volume-requires : goal.next_volume-requires
-next_volume-requires c = search rules
-
 pub returns-then-complete : goal.returns-then-complete
 returns-then-complete c = ap S.Go c.next_volume.ensures ∙ sym (ap (last_step c.args.complete) c.in-Go.is ∙ rw c.if-complete.true)
-
-pub enum_told-1 : goal.enum_told-1
-enum_told-1 c = search rules
-
-pub enum_known-did-in-Stop-1 : goal.enum_known-did-in-Stop-1
-enum_known-did-in-Stop-1 c = search rules
 
 pub returns-then-complete-2 : goal.returns-then-complete-2
 returns-then-complete-2 c = sym (ap (last_step c.args.complete) c.in-Stop.is ∙ rw c.if-complete-2.true)

@@ -1,13 +1,9 @@
 use mathlib.Core.Path.{sym, ◌∙◌}
 use borrow.Author.Tests.{ne_eqb}
-use borrow.Author.Rules.{rules}
 use Rattle.steps.proofs.volume.next_volume.Goals as goal
 
 pub returns-then-here-ne-BLOCK_TOP : goal.returns-then-here-ne-BLOCK_TOP
 returns-then-here-ne-BLOCK_TOP c = sym (rw (ne_eqb _ _ c.if-here-ne-BLOCK_TOP.true))
-
-pub at_block-requires : goal.at_block-requires
-at_block-requires c = search rules
 
 pub returns : goal.returns
 returns c = c.at_block.ensures ∙ sym (rw c.if-here-ne-BLOCK_TOP.false)

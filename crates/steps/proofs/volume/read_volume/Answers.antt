@@ -1,13 +1,10 @@
-use borrow.Author.Rules.{rules}
-use mathlib.Core.Path.{◌≡◌, refl, ◌∙◌}
+use mathlib.Core.Path.{refl, ◌∙◌}
 use native.Mathlib.Omega.{arith}
-use Prim.Native.Nat.{◌+◌, ◌-◌}
 use lib.ListN.{length}
-use Rattle.standing.specs.Standing.{Desk, desk}
-use Rattle.account.specs.Walk.{end_of}
+use Rattle.standing.specs.Standing.{desk}
 use Rattle.account.proofs.SeenLines.{seen-forward}
 use Rattle.steps.proofs.VolumeLoop.{back_desk, SameLengths, OwnLengths}
-use Rattle.steps.proofs.VolumeLoopTurns.{none_following, skipped-further, Turn, begins, turn-empty, turn_ready, turn-own, same-on, own_on, turn-go, turn-block, turn_skip, turn-left, turn-stop, turn_last}
+use Rattle.steps.proofs.VolumeLoopTurns.{none_following, skipped-further, begins, turn-empty, turn_ready, turn-own, same-on, own_on, turn-go, turn-block, turn_skip, turn-left, turn-stop, turn_last}
 use Rattle.steps.proofs.volume.read_volume.Goals as goal
 
 pub loop-at-init : goal.loop-at-init
@@ -15,9 +12,6 @@ loop-at-init c = begins _ _ _ _ _ _ _ _ c.requires (record { used = refl; marks 
 
 pub next_line-seen-requires : goal.next_line-seen-requires
 next_line-seen-requires c = let i = c.loop-at.invariant.through.low in omega (arith, i.line, i.at)
-
-pub refused-requires : goal.refused-requires
-refused-requires c = tt
 
 pub shape_of-tally-then-seen-at : goal.shape_of-tally-then-seen-at
 shape_of-tally-then-seen-at c = c.loop-at.invariant.lengths.tally
@@ -40,44 +34,14 @@ shape_of-t-then-seen-at c = c.loop-at.invariant.lengths.table
 pub returns-then-seen-at : goal.returns-then-seen-at
 returns-then-seen-at c = turn-empty _ _ _ _ _ _ _ _ _ _ _ _ _ _ c.loop-at.invariant _ c.next_line-seen.ensures c.if-seen-at.true _ _ _ c.refused.ensures
 
-pub completes-complete-requires : goal.completes-complete-requires
-completes-complete-requires c = tt
-
 pub overflow_add-place : goal.overflow_add-place
 overflow_add-place c = let i = c.loop-at.invariant.through.low in omega (arith, i.line, i.at)
-
-pub both-requires : goal.both-requires
-both-requires c = tt
-
-pub slice_bounds-step-end : goal.slice_bounds-step-end
-slice_bounds-step-end c = search rules
-
-pub slice_bounds-step-end-in-loop-at : goal.slice_bounds-step-end-in-loop-at
-slice_bounds-step-end-in-loop-at c = search rules
-
-pub slice_bounds-step-end-in-loop-at-2 : goal.slice_bounds-step-end-in-loop-at-2
-slice_bounds-step-end-in-loop-at-2 c = search rules
-
-pub slice_bounds-step-end-in-loop-at-3 : goal.slice_bounds-step-end-in-loop-at-3
-slice_bounds-step-end-in-loop-at-3 c = search rules
-
-pub slice_bounds-step-end-in-loop-at-4 : goal.slice_bounds-step-end-in-loop-at-4
-slice_bounds-step-end-in-loop-at-4 c = search rules
 
 pub step-answer-requires : goal.step-answer-requires
 step-answer-requires c = turn_ready _ _ _ _ _ _ _ _ _ _ _ _ _ _ c.loop-at.invariant _ c.next_line-seen.ensures c.if-seen-at.false _ c.both.ensures c.requires
 
-pub within-did-requires : goal.within-did-requires
-within-did-requires c = tt
-
 pub overflow_add-line : goal.overflow_add-line
 overflow_add-line c = let i = c.loop-at.invariant.through.low in omega (arith, i.line, i.at)
-
-pub at_last-requires : goal.at_last-requires
-at_last-requires c = tt
-
-pub closed-requires : goal.closed-requires
-closed-requires c = tt
 
 pub shape_of-tally-then-seen : goal.shape_of-tally-then-seen
 shape_of-tally-then-seen c = c.step-answer.auto.tally ∙ c.loop-at.invariant.lengths.tally
@@ -102,20 +66,8 @@ returns-then-seen c =
     let after = desk c.loop-at.here c.step-answer.new.tally c.step-answer.new.symbols c.step-answer.new.layers c.step-answer.new.serials c.step-answer.new.used c.step-answer.new.used_all c.step-answer.new.marks c.step-answer.new.inner c.step-answer.new.header c.step-answer.new.scratch in
     turn_last _ _ _ _ _ _ _ _ _ _ _ _ _ _ c.loop-at.invariant _ c.next_line-seen.ensures c.if-seen-at.false _ c.both.ensures after c.step-answer.result c.step-answer.ensures _ c.within-did.ensures c.if-seen.true _ c.completes-complete.ensures _ c.at_last.ensures _ c.closed.ensures
 
-pub enum_known-did : goal.enum_known-did
-enum_known-did c = search rules
-
-pub slice_bounds-put_done-end : goal.slice_bounds-put_done-end
-slice_bounds-put_done-end c = search rules
-
-pub slice_bounds-put_done-end-in-Go : goal.slice_bounds-put_done-end-in-Go
-slice_bounds-put_done-end-in-Go c = search rules
-
 pub put_done-requires : goal.put_done-requires
 put_done-requires c = ((◌∙◌ {b = length c.loop-at.header} c.step-answer.auto.header c.loop-at.invariant.arrays.header), (◌∙◌ {b = length c.loop-at.scratch} c.step-answer.auto.scratch c.loop-at.invariant.arrays.scratch), turn-own _ _ _ _ _ _ _ _ _ _ _ _ _ _ c.loop-at.invariant _ c.next_line-seen.ensures c.if-seen-at.false _ c.both.ensures c.requires)
-
-pub own_after-own-requires : goal.own_after-own-requires
-own_after-own-requires c = tt
 
 pub loop-at-smaller-in-Go : goal.loop-at-smaller-in-Go
 loop-at-smaller-in-Go c = let m = seen-forward _ _ _ _ c.next_line-seen.ensures c.if-seen.false in omega (arith, m.0, m.1)
@@ -130,16 +82,10 @@ loop-at-preserved-in-Go c =
     let own : OwnLengths after = record { used = ◌∙◌ {b = length c.loop-at.used} c.step-answer.auto.used o.used; marks = ◌∙◌ {b = length c.loop-at.marks} c.step-answer.auto.marks o.marks; inner = ◌∙◌ {b = length c.loop-at.inner} c.step-answer.auto.inner o.inner; header = ◌∙◌ {b = length c.loop-at.header} c.step-answer.auto.header o.header; scratch = ◌∙◌ {b = length c.loop-at.scratch} c.step-answer.auto.scratch o.scratch } in
     turn-go _ _ _ _ _ _ _ _ _ _ _ _ _ _ c.loop-at.invariant _ c.next_line-seen.ensures c.if-seen-at.false _ c.both.ensures after c.step-answer.result c.step-answer.ensures _ c.within-did.ensures c.if-seen.false c.requires _ c.in-Go.is _ _ c.put_done.ensures.0 c.put_done.ensures.1 _ c.own_after-own.ensures (same-on _ _ _ _ _ _ _ _ c.loop-at.invariant.lengths kept c.put_done.auto.t) (own_on _ _ _ own c.put_done.auto.scratch)
 
-pub enum_known-did-in-Skip-1 : goal.enum_known-did-in-Skip-1
-enum_known-did-in-Skip-1 c = search rules
-
 pub skip_block-left-requires : goal.skip_block-left-requires
 skip_block-left-requires c =
     let after = desk c.loop-at.here c.step-answer.new.tally c.step-answer.new.symbols c.step-answer.new.layers c.step-answer.new.serials c.step-answer.new.used c.step-answer.new.used_all c.step-answer.new.marks c.step-answer.new.inner c.step-answer.new.header c.step-answer.new.scratch in
     turn-block _ _ _ _ _ _ _ _ _ _ _ _ _ _ c.loop-at.invariant _ c.next_line-seen.ensures c.if-seen-at.false _ c.both.ensures after c.step-answer.result c.step-answer.ensures _ c.within-did.ensures c.if-seen.false
-
-pub enum_known-left : goal.enum_known-left
-enum_known-left c = search rules
 
 pub loop-at-smaller : goal.loop-at-smaller
 loop-at-smaller c = let m = seen-forward _ _ _ _ c.next_line-seen.ensures c.if-seen.false in let x = skipped-further _ _ _ _ _ _ c.skip_block-left.ensures c.in-Ok.is in omega (arith, m.0, m.1, x.1, x.2)
@@ -176,9 +122,6 @@ pub returns-in-Err : goal.returns-in-Err
 returns-in-Err c =
     let after = desk c.loop-at.here c.step-answer.new.tally c.step-answer.new.symbols c.step-answer.new.layers c.step-answer.new.serials c.step-answer.new.used c.step-answer.new.used_all c.step-answer.new.marks c.step-answer.new.inner c.step-answer.new.header c.step-answer.new.scratch in
     turn-left _ _ _ _ _ _ _ _ _ _ _ _ _ _ c.loop-at.invariant _ c.next_line-seen.ensures c.if-seen-at.false _ c.both.ensures after c.step-answer.result c.step-answer.ensures _ c.within-did.ensures c.if-seen.false _ c.in-Skip.is _ c.skip_block-left.ensures _ c.in-Err.is (back_desk after) c.loop-at.t
-
-pub refused-requires-in-Stop : goal.refused-requires-in-Stop
-refused-requires-in-Stop c = tt
 
 pub shape_of-tally-in-Stop : goal.shape_of-tally-in-Stop
 shape_of-tally-in-Stop c = c.step-answer.auto.tally ∙ c.loop-at.invariant.lengths.tally

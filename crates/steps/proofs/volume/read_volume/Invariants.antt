@@ -1,13 +1,7 @@
-use borrow.Author.Rules.{rules}
-use mathlib.Core.Path.{◌≡◌, refl, ◌∙◌}
-use native.Mathlib.Omega.{arith}
 use Prim.Native.Nat.{◌+◌, ◌-◌}
-use lib.ListN.{length}
-use Rattle.standing.specs.Standing.{Desk, desk}
+use Rattle.standing.specs.Standing.{desk}
 use Rattle.account.specs.Walk.{end_of}
-use Rattle.account.proofs.SeenLines.{seen-forward}
-use Rattle.steps.proofs.VolumeLoop.{back_desk, SameLengths, OwnLengths}
-use Rattle.steps.proofs.VolumeLoopTurns.{none_following, skipped-further, Turn, begins, turn-empty, turn_ready, turn-own, same-on, own_on, turn-go, turn-block, turn_skip, turn-left, turn-stop, turn_last}
+use Rattle.steps.proofs.VolumeLoopTurns.{Turn}
 use Rattle.steps.proofs.volume.read_volume.Given as goal
 
 abbrev pub invariant-loop-at : goal.invariant-loop-at
