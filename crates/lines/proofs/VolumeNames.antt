@@ -1,5 +1,6 @@
 -- Laws of volumes' names: a scan's step by place, and what a good name is, as the code tests it.
 use Rattle.std.specs.Prelude.{Option, Some, None}
+use Rattle.std.specs.List.{list_all, prefix_len}
 use Prim.Native.Nat.{ℕ, zero, suc, ◌+◌, ◌-◌, ◌<◌, ◌≤◌, zero-le}
 use mathlib.Core.Path.{◌≡◌, refl, ap, sym, ◌∙◌}
 use mathlib.Core.Bool.{Bool, true, false, cond, ◌&&◌, not}
@@ -17,31 +18,16 @@ use Rattle.rules.specs.Spool.{name_byte, name_of, padded_name, good_name}
 use Rattle.lines.specs.VolumeNames.{letters, all_spaces, raw_name, name_at}
 use Rattle.leaves.proofs.Scan.{at}
 
--- ── scans ──
-module _ (s : List ℕ) (i : ℕ) where
-  pub letters-stop : i < length s → name_byte (get_or s i 0) ≡ false → letters (drop i s) ≡ 0
-  unfolding letters
-  letters-stop h e = rw (at s i h, e)
+-- ── the chains of the code ──
+pub letters-prefix : (s : List ℕ) → prefix_len name_byte s ≡ letters s
+unfolding letters
+letters-prefix [] = refl
+letters-prefix (b ∷ s) = let e : 1 + prefix_len name_byte s ≡ suc (letters s) = omega (arith, letters-prefix s) in ap (λ n. cond (name_byte b) n 0) e
 
-  pub letters-more : i < length s → name_byte (get_or s i 0) ≡ true → letters (drop i s) ≡ suc (letters (drop (i + 1) s))
-  unfolding letters
-  letters-more h e = rw (at s i h, e)
-
-  pub letters-end : length s ≤ i → letters (drop i s) ≡ 0
-  unfolding letters
-  letters-end h = rw (drop_of_length-le s h)
-
-  pub spaces-stop : i < length s → (get_or s i 0 ≡ 32 → ⊥) → all_spaces (drop i s) ≡ false
-  unfolding all_spaces
-  spaces-stop h e = rw (at s i h, ne_eqb _ _ e)
-
-  pub spaces-more : i < length s → get_or s i 0 ≡ 32 → all_spaces (drop i s) ≡ all_spaces (drop (i + 1) s)
-  unfolding all_spaces
-  spaces-more h e = rw (at s i h, eq-eqb _ _ e)
-
-  pub spaces-end : length s ≤ i → all_spaces (drop i s) ≡ true
-  unfolding all_spaces
-  spaces-end h = rw (drop_of_length-le s h)
+pub spaces-all : (s : List ℕ) → list_all (λ b. eqb b 32) s ≡ all_spaces s
+unfolding all_spaces
+spaces-all [] = refl
+spaces-all (b ∷ s) = ap (λ t. eqb b 32 && t) (spaces-all s)
 
 -- ── a good name ──
 pub letters-le : (s : List ℕ) → letters s ≤ length s

@@ -1,49 +1,30 @@
 // The names of volumes.
-ghost use Rattle.std.specs.Prelude.{◌≡◌, map, ◌+◌, ◌≤◌, ◌<◌, length, get_or, drop};
+ghost use Rattle.std.specs.List.{list_all, prefix_len};
+ghost use Rattle.std.specs.Prelude.{◌≡◌, ◌==◌, map, ◌+◌, ◌≤◌, ◌<◌, length, get_or, drop};
 ghost use Rattle.rules.specs.Base.{same as sameBytes, among, distinct};
 ghost use Rattle.rules.specs.Spool.{name_byte, good_name};
-ghost use Rattle.lines.specs.VolumeNames.{letters, all_spaces, raw_name, Ranged};
+ghost use Rattle.lines.specs.VolumeNames.{raw_name, Ranged};
 
 use crate::SPACE;
-use leaves::bytes::{same, within};
+use leaves::bytes::same;
 
 fn name_byte(b: u8) -> bool
     ensures { result ≡ name_byte b }
 {
-    let n = b as u64;
-    if within(65, 90, n) {
-        return true;
-    }
-    within(48, 57, n)
+    matches!(b, b'A'..=b'Z' | b'0'..=b'9')
 }
 
 // How many bytes of a name stand in front.
 fn letters_in(n: &[u8]) -> usize
-    ensures { result ≡ letters n.now }
+    ensures { result ≡ prefix_len name_byte n.now }
 {
-    let mut i = 0;
-    while i < n.len() {
-        if !name_byte(n[i]) {
-            return i;
-        }
-        i += 1;
-    }
-    i
+    n.iter().take_while(|b| name_byte(**b)).count()
 }
 
-// Only spaces from a place on.
-fn spaces_from(n: &[u8], from: usize) -> bool
-    requires { from ≤ length n.now }
-    ensures { result ≡ all_spaces (drop from n.now) }
+fn only_spaces(n: &[u8]) -> bool
+    ensures { result ≡ list_all (λ b. b == 32) n.now }
 {
-    let mut i = from;
-    while i < n.len() {
-        if n[i] != SPACE {
-            return false;
-        }
-        i += 1;
-    }
-    true
+    n.iter().all(|b| *b == SPACE)
 }
 
 // "8 name bytes (1 to 8 of A-Z, 0-9, then spaces)"
@@ -52,10 +33,7 @@ pub(crate) fn good_name(n: &[u8]) -> bool
     ensures { result ≡ good_name n.now }
 {
     let k = letters_in(n);
-    if k == 0 {
-        return false;
-    }
-    spaces_from(n, k)
+    k != 0 && only_spaces(&n[k..])
 }
 
 // The eight name bytes of the volume whose first byte stands at a place.
@@ -80,12 +58,10 @@ fn name_again(s: &[u8], places: &[u32], i: usize) -> bool
     requires { (i < length places.now) × Ranged s.now places.now }
     ensures { result ≡ among (raw_name s.now (get_or places.now i 0)) (map (raw_name s.now) (drop (i + 1) places.now)) }
 {
-    let mut j = i + 1;
-    while j < places.len() {
+    for j in i + 1..places.len() {
         if same_name(s, places[i], places[j]) {
             return true;
         }
-        j += 1;
     }
     false
 }
@@ -95,12 +71,10 @@ pub(crate) fn names_differ(s: &[u8], places: &[u32]) -> bool
     requires { Ranged s.now places.now }
     ensures { result ≡ distinct (map (raw_name s.now) places.now) }
 {
-    let mut i = 0;
-    while i < places.len() {
+    for i in 0..places.len() {
         if name_again(s, places, i) {
             return false;
         }
-        i += 1;
     }
     true
 }

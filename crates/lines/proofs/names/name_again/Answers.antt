@@ -5,9 +5,6 @@ use Rattle.lines.specs.VolumeNames.{raw_name}
 use Rattle.lines.proofs.VolumeNames as laws
 use Rattle.lines.proofs.names.name_again.Goals as goal
 
-pub overflow_add-j : goal.overflow_add-j
-overflow_add-j c = omega (arith, c.requires.0)
-
 pub loop-j-init : goal.loop-j-init
 loop-j-init c = (omega arith, omega (arith, c.requires.0), refl)
 

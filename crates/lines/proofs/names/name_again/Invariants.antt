@@ -9,5 +9,5 @@ use Rattle.lines.proofs.names.name_again.Given as goal
 abbrev pub invariant-loop-j : goal.invariant-loop-j
 invariant-loop-j l = (l.i < l.j) × (l.j ≤ length l.places) × (among (raw_name l.s (get_or l.places l.i 0)) (map (raw_name l.s) (drop (l.i + 1) l.places)) ≡ among (raw_name l.s (get_or l.places l.i 0)) (map (raw_name l.s) (drop l.j l.places)))
 
-abbrev pub decreases-loop-j : goal.decreases-loop-j
-decreases-loop-j l = length l.places - l.j
+
+

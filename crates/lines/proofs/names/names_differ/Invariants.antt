@@ -9,5 +9,5 @@ use Rattle.lines.proofs.names.names_differ.Given as goal
 abbrev pub invariant-loop-i : goal.invariant-loop-i
 invariant-loop-i l = (l.i ≤ length l.places) × (distinct (map (raw_name l.s) l.places) ≡ distinct (map (raw_name l.s) (drop l.i l.places)))
 
-abbrev pub decreases-loop-i : goal.decreases-loop-i
-decreases-loop-i l = length l.places - l.i
+
+
