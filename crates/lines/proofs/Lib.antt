@@ -3,7 +3,7 @@ pub mod VolumeNames
 pub mod VolumePlaces
 pub mod LineForms
 pub mod LineLook
-pub mod LineSketch
+pub mod LineFlaw
 pub mod LinesSeen
 pub mod VolumesSeen
 pub mod Unique

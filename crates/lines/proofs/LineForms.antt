@@ -1,4 +1,5 @@
 -- Laws of a line's form by place: leading blanks, and the end of the key.
+use Rattle.std.specs.Prelude.{Ok, Err}
 use Prim.Native.Nat.{ℕ, suc, ◌+◌, ◌-◌, ◌<◌, ◌≤◌, zero-le, suc-le-suc}
 use mathlib.Core.Path.{◌≡◌, refl, ap, ◌∙◌}
 use mathlib.Core.Bool.{Bool, true, false, cond, ◌&&◌, ◌||◌}
@@ -13,7 +14,8 @@ use Rattle.rules.specs.declared.LineForm.{LineForm}
 use Rattle.rules.specs.declared.LineForm.TheVariants as L
 use Rattle.rules.specs.Lines.{unindent, Scan, neither, at_equal, at_brace, key_onto, after_colon, scan, brace, equals, wrong, close, eof, with_key, form_from, form_of_rest, form_of, allowed, with_places, line_form_of}
 use Rattle.lines.specs.LineForms.{blank_of, opens_here, KeyEnd, endless, equal_at, brace_at, later, key_end_of, refused_as, equals_at, opens_at, rest_form}
-use Rattle.lines.specs.LineSketch.{keyless_form, sketch_form, word_kind, bare_kind, equal_sketch, brace_sketch}
+use Rattle.lines.specs.LineFlaw.{told, word_form, bare_form, equal_form, brace_form}
+use Rattle.lines.specs.declared.forms.Flaw.TheVariants.{NoForm}
 use Rattle.leaves.proofs.Scan.{at as by_place}
 
 -- ── leading blanks ──
@@ -193,9 +195,9 @@ unindent-behind (b ∷ c ∷ s) = go (eqb b 32 || eqb b 9) (eqb b 129 && eqb c 6
 -- ── the form by the end of the key ──
 -- the third argument: the place of the line's first byte
 abbrev pub form_by_end : ℕ → ℕ → ℕ → List ℕ → KeyEnd → LineForm
-form_by_end volume line at s endless = keyless_form volume line (word_kind s)
-form_by_end volume line at s (equal_at n) = sketch_form volume line (equal_sketch at n (at + length s))
-form_by_end volume line at s (brace_at n) = sketch_form volume line (brace_sketch at n (at + length s))
+form_by_end volume line at s endless = told volume line (word_form s)
+form_by_end volume line at s (equal_at n) = told volume line (equal_form at n (at + length s))
+form_by_end volume line at s (brace_at n) = told volume line (brace_form at n (at + length s))
 
 equals-same : (a b n p q x y : ℕ) → a ≡ b → p ≡ q → x ≡ y → equals_at a n p x ≡ equals_at b n q y
 equals-same a b n p q x y e f g = rw (e, f, g)
@@ -204,24 +206,24 @@ opens-same : (a b n : ℕ) → a ≡ b → opens_at a n ≡ opens_at b n
 opens-same a b n e = rw e
 
 module _ (volume line at : ℕ) (s : List ℕ) where
-  by-neither : with_places volume line (at + length s) (form_from s (at + length s) neither) ≡ keyless_form volume line (word_kind s)
-  unfolding keyless_form word_kind
+  by-neither : with_places volume line (at + length s) (form_from s (at + length s) neither) ≡ told volume line (word_form s)
+  unfolding word_form
   by-neither = go (same s (bytes "}")) (same s (bytes "EOF"))
     where
-      go : (t u : Bool) → with_places volume line (at + length s) (cond t close (cond u eof (wrong 5))) ≡ keyless_form volume line (cond t 1 (cond u 2 6))
+      go : (t u : Bool) → with_places volume line (at + length s) (cond t close (cond u eof (wrong 5))) ≡ told volume line (cond t (Ok L.Close) (cond u (Ok L.Eof) (Err NoForm)))
       go true u = refl
       go false true = refl
       go false false = refl
 
-  by_equal : (k c : List ℕ) → Around s 1 k c → with_places volume line (at + length s) (with_key k (equals (at + length s - length c) c)) ≡ sketch_form volume line (equal_sketch at (length k) (at + length s))
-  unfolding sketch_form keyless_form equal_sketch
+  by_equal : (k c : List ℕ) → Around s 1 k c → with_places volume line (at + length s) (with_key k (equals (at + length s - length c) c)) ≡ told volume line (equal_form at (length k) (at + length s))
+  unfolding equal_form
   by_equal [] c h = refl
   by_equal (b ∷ k) c (p, q, r) =
       let z : ◌≡◌ {A = ℕ} (suc (length k)) 0 → ⊥ = λ e. omega (arith, e) in
       rw (ne_eqb (suc (length k)) 0 z) (equals-same _ _ (suc (length k)) _ _ _ _ (omega (arith, r)) (omega (arith, r)) (omega (arith, r)))
 
-  by-brace : (k c : List ℕ) → Around s 2 k c → with_places volume line (at + length s) (cond (is_nil c) (with_key k brace) (wrong 5)) ≡ sketch_form volume line (brace_sketch at (length k) (at + length s))
-  unfolding sketch_form keyless_form brace_sketch
+  by-brace : (k c : List ℕ) → Around s 2 k c → with_places volume line (at + length s) (cond (is_nil c) (with_key k brace) (wrong 5)) ≡ told volume line (brace_form at (length k) (at + length s))
+  unfolding brace_form
   by-brace [] [] h = refl
   by-brace [] (x ∷ c) h = refl
   by-brace (b ∷ k) (x ∷ c) (p, q, r) =
@@ -253,16 +255,16 @@ module _ (volume line at : ℕ) where
   rest-wrong [] e = clash refl e
   rest-wrong (b ∷ s) e = rest-by volume line at b s ∙ rw e
 
-  pub rest-short : (s : List ℕ) → allowed s ≡ true → key_end_of (scan s) ≡ endless → rest_form volume line at s ≡ keyless_form volume line (bare_kind s)
-  unfolding rest_form keyless_form bare_kind
+  pub rest-short : (s : List ℕ) → allowed s ≡ true → key_end_of (scan s) ≡ endless → rest_form volume line at s ≡ told volume line (bare_form s)
+  unfolding rest_form bare_form
   rest-short [] e f = refl
   rest-short (b ∷ s) e f = rest-by volume line at b s ∙ rw (e, f)
 
-  pub rest_equal : (s : List ℕ) (n : ℕ) → key_end_of (scan s) ≡ equal_at n → rest_form volume line at s ≡ cond (allowed s) (sketch_form volume line (equal_sketch at n (at + length s))) (refused_as 4 volume line)
+  pub rest_equal : (s : List ℕ) (n : ℕ) → key_end_of (scan s) ≡ equal_at n → rest_form volume line at s ≡ cond (allowed s) (told volume line (equal_form at n (at + length s))) (refused_as 4 volume line)
   rest_equal [] n f = absurd (let z : ◌≡◌ {A = ℕ} 0 1 = cc in omega arith)
   rest_equal (b ∷ s) n f = rest-by volume line at b s ∙ rw f
 
-  pub rest-brace : (s : List ℕ) (n : ℕ) → key_end_of (scan s) ≡ brace_at n → rest_form volume line at s ≡ cond (allowed s) (sketch_form volume line (brace_sketch at n (at + length s))) (refused_as 4 volume line)
+  pub rest-brace : (s : List ℕ) (n : ℕ) → key_end_of (scan s) ≡ brace_at n → rest_form volume line at s ≡ cond (allowed s) (told volume line (brace_form at n (at + length s))) (refused_as 4 volume line)
   rest-brace [] n f = absurd (let z : ◌≡◌ {A = ℕ} 0 1 = cc in omega arith)
   rest-brace (b ∷ s) n f = rest-by volume line at b s ∙ rw f
 

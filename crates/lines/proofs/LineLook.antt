@@ -16,10 +16,10 @@ use Rattle.rules.specs.declared.LineForm.{LineForm}
 use Rattle.rules.specs.declared.LineForm.TheVariants as L
 use Rattle.rules.specs.Lines.{unindent, scan, allowed, allowed_from, single_byte, lead_byte, trail_byte, form_of, line_form_of}
 use Rattle.leaves.specs.Bytes.{up_to}
-use Rattle.leaves.proofs.Cuts.{up_to-le, up_to-take}
+use Rattle.leaves.proofs.Cuts.{up_to-take}
 use Rattle.lines.specs.LineForms.{blank_of, opens_here, char_of, key_char, KeyEnd, endless, equal_at, brace_at, key_end_of, later, key_from, key_byte, Blanks, Passed, KeyPassed, CleanRun, KeyRun, refused_as, rest_form}
 use Rattle.lines.specs.LineLook.{seen_at, look_from, look_in}
-use Rattle.lines.specs.LineSketch.{keyless_form, sketch_form, bare_kind, equal_sketch, brace_sketch}
+use Rattle.lines.specs.LineFlaw.{told, bare_form, equal_form, brace_form}
 use Rattle.leaves.proofs.Scan.{at as by_place}
 use Rattle.lines.proofs.SoundEnds.{or-neither}
 use Rattle.lines.proofs.LineForms as forms
@@ -360,7 +360,7 @@ module _ (volume line at : ℕ) (l : List ℕ) (n k : ℕ) (b : Blanks l n) (r :
   form-rest : line_form_of volume line at l ≡ rest_form volume line (at + n) (drop n l)
   form-rest = forms.line-rest volume line at n l c (omega (arith, ap length b.rest, b.high, length-drop n l)) ∙ ap (rest_form volume line (at + n)) b.rest
 
-  pub form-bare : k ≡ length l → line_form_of volume line at l ≡ keyless_form volume line (bare_kind (drop n l))
+  pub form-bare : k ≡ length l → line_form_of volume line at l ≡ told volume line (bare_form (drop n l))
   form-bare h =
       let over : drop k l ≡ [] = drop_of_length-le l {i = k} (omega arith) in
       let key : key_end_of (scan (drop n l)) ≡ endless = later-endless n (key_end_of (scan (drop n l))) (r.key ∙ ap (λ u. later k (key_end_of (scan u))) over) in
@@ -391,20 +391,20 @@ module _ (volume line at : ℕ) (l : List ℕ) (n k : ℕ) (b : Blanks l n) (r :
       equal-key : key_from l k ≡ equal_at k
       equal-key = let i : k + 0 ≡ k = omega arith in ap (λ u. later k (key_end_of (scan u))) (by_place l k h) ∙ rw (eq-eqb _ _ e) (ap equal_at i)
 
-      abbrev equal-form : ℕ → LineForm
-      equal-form end = sketch_form volume line (equal_sketch (at + n) (k - n) end)
+      abbrev equal-at : ℕ → LineForm
+      equal-at end = told volume line (equal_form (at + n) (k - n) end)
 
-      equal_rest : rest_form volume line (at + n) (drop n l) ≡ cond (allowed (drop n l)) (equal-form (at + n + length (drop n l))) (refused_as 4 volume line)
+      equal_rest : rest_form volume line (at + n) (drop n l) ≡ cond (allowed (drop n l)) (equal-at (at + n + length (drop n l))) (refused_as 4 volume line)
       equal_rest = forms.rest_equal volume line (at + n) (drop n l) (k - n) (later_equal n k (key_end_of (scan (drop n l))) (r.key ∙ equal-key))
 
       equal-clean : allowed (drop k l) ≡ allowed (drop (k + 1) l)
       equal-clean = ap allowed (by_place l k h) ∙ rw e
 
-      pub form_equal : j ≡ length l → line_form_of volume line at l ≡ sketch_form volume line (equal_sketch (at + n) (k - n) (at + length l))
-      form_equal = keyed-whole 1 j equal-form equal_rest equal-clean w
+      pub form_equal : j ≡ length l → line_form_of volume line at l ≡ told volume line (equal_form (at + n) (k - n) (at + length l))
+      form_equal = keyed-whole 1 j equal-at equal_rest equal-clean w
 
       pub form_equal-wrong : (j ≡ length l → ⊥) → line_form_of volume line at l ≡ refused_as 4 volume line
-      form_equal-wrong = keyed-wrong 1 j equal-form equal_rest equal-clean w
+      form_equal-wrong = keyed-wrong 1 j equal-at equal_rest equal-clean w
 
     module _ (o : opens_here (drop k l) ≡ true) (w : CleanRun l (k + 2) j) where
       brace-bytes : drop k l ≡ 58 ∷ 123 ∷ drop (k + 2) l
@@ -413,25 +413,22 @@ module _ (volume line at : ℕ) (l : List ℕ) (n k : ℕ) (b : Blanks l n) (r :
       brace-key : key_from l k ≡ brace_at k
       brace-key = let i : k + 0 ≡ k = omega arith in ap (λ u. later k (key_end_of (scan u))) brace-bytes ∙ ap brace_at i
 
-      abbrev brace-form : ℕ → LineForm
-      brace-form end = sketch_form volume line (brace_sketch (at + n) (k - n) end)
+      abbrev brace-at : ℕ → LineForm
+      brace-at end = told volume line (brace_form (at + n) (k - n) end)
 
-      brace-rest : rest_form volume line (at + n) (drop n l) ≡ cond (allowed (drop n l)) (brace-form (at + n + length (drop n l))) (refused_as 4 volume line)
+      brace-rest : rest_form volume line (at + n) (drop n l) ≡ cond (allowed (drop n l)) (brace-at (at + n + length (drop n l))) (refused_as 4 volume line)
       brace-rest = forms.rest-brace volume line (at + n) (drop n l) (k - n) (later-brace n k (key_end_of (scan (drop n l))) (r.key ∙ brace-key))
 
       brace-clean : allowed (drop k l) ≡ allowed (drop (k + 2) l)
       brace-clean = ap allowed brace-bytes
 
-      pub form-brace : j ≡ length l → line_form_of volume line at l ≡ sketch_form volume line (brace_sketch (at + n) (k - n) (at + length l))
-      form-brace = keyed-whole 2 j brace-form brace-rest brace-clean w
+      pub form-brace : j ≡ length l → line_form_of volume line at l ≡ told volume line (brace_form (at + n) (k - n) (at + length l))
+      form-brace = keyed-whole 2 j brace-at brace-rest brace-clean w
 
       pub form-brace-wrong : (j ≡ length l → ⊥) → line_form_of volume line at l ≡ refused_as 4 volume line
-      form-brace-wrong = keyed-wrong 2 j brace-form brace-rest brace-clean w
+      form-brace-wrong = keyed-wrong 2 j brace-at brace-rest brace-clean w
 
 -- ── a look at a volume ──
-pub cr-inside : (body : List ℕ) (from to : ℕ) → from ≤ length body → to ≡ from + length (up_to 13 (drop from body)) → to ≤ length body
-cr-inside body from to f t = omega (arith, t, f, up_to-le 13 (drop from body), length-drop from body)
-
 module _ (volume line base at : ℕ) (body : List ℕ) where
   -- the volume's end
   abbrev end : ℕ
@@ -463,20 +460,20 @@ module _ (volume line base at : ℕ) (body : List ℕ) where
     unfolding look_from
     look-some h = look-there ∙ rw (lt-ltb _ _ h)
 
-    -- the CR that was searched, from the line's place in the volume on
-    module _ (from to : ℕ) (f : from ≡ at - base) (t : to ≡ from + length (up_to 13 (drop from body))) where
+    -- the line's place in the volume, and the CR that was searched from there on
+    module _ (from : ℕ) (f : from ≡ at - base) where
       left_is : drop (at - base) body ≡ drop from body
       left_is = ap (λ k. drop k body) (sym f)
 
-      pub look-ends : to ≡ length body → look_in volume line base at body ≡ None
-      look-ends h = look_none (rw left_is (omega (arith, t, f, h, length-drop from body)))
+      pub look-ends : length body ≤ from + length (up_to 13 (drop from body)) → look_in volume line base at body ≡ None
+      look-ends h = look_none (rw left_is (omega (arith, f, h, length-drop from body)))
 
-      pub look-found : (to ≡ length body → ⊥) → seen_at (line_form_of volume line at (take (to - from) (drop from body))) (base + to) (base + length body) ≡ look_in volume line base at body
-      look-found h =
+      pub look-found : (to : ℕ) → to ≡ from + length (up_to 13 (drop from body)) → to < length body
+          → seen_at (line_form_of volume line at (take (to - from) (drop from body))) (base + to) (base + length body) ≡ look_in volume line base at body
+      look-found to t h =
           let l = up_to 13 (drop (at - base) body) in
-          let inside = cr-inside body from to (omega (arith, f)) t in
           let n : to - from ≡ length (up_to 13 (drop from body)) = omega (arith, t) in
           let bytes : take (to - from) (drop from body) ≡ l = ap (λ k. take k (drop from body)) n ∙ up_to-take 13 (drop from body) ∙ ap (up_to 13) (sym left_is) in
           let cr : base + to ≡ at + length l = rw left_is (omega (arith, t, f)) in
           ap (λ u. seen_at (line_form_of volume line at u) (base + to) (base + length body)) bytes ∙ ap (λ k. seen_at (line_form_of volume line at l) k (base + length body)) cr
-          ∙ sym (look-some (rw left_is (omega (arith, t, f, h, inside, length-drop from body))))
+          ∙ sym (look-some (rw left_is (omega (arith, t, f, h, length-drop from body))))

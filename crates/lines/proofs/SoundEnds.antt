@@ -1,5 +1,5 @@
 -- Laws of rule 3 by place: a run of bytes inside a line, and what stands behind it.
-use Rattle.std.specs.Prelude.{Option, Some, None}
+use Rattle.std.specs.Prelude.{Option, Some, None, fold, min}
 use Prim.Native.Nat.{ℕ, zero, suc, ◌+◌, ◌-◌, ◌<◌, ◌≤◌, zero-le}
 use mathlib.Core.Path.{◌≡◌, refl, ap, sym, ◌∙◌}
 use mathlib.Core.Bool.{Bool, true, false, cond, ◌&&◌, ◌||◌}
@@ -54,42 +54,18 @@ run-high (suc n) (b ∷ s) h e =
     let ih = run-high n s (omega arith) (and_right (ltb 26 b) (all high_byte (take n s)) e) in
     rw f (omega (arith, ih))
 
-and_together : (a b c : Bool) → ((a && b) && c) ≡ (a && (b && c))
-and_together true b c = refl
-and_together false b c = refl
+fold-high : (t : Bool) (s : List ℕ) → fold (λ high b. high && high_byte b) t s ≡ (t && all high_byte s)
+fold-high true [] = refl
+fold-high false [] = refl
+fold-high true (b ∷ s) = fold-high (high_byte b) s
+fold-high false (b ∷ s) = fold-high false s
 
-all_take : (n m : ℕ) (s : List ℕ) → (all high_byte (take n s) && all high_byte (take m (drop n s))) ≡ all high_byte (take (m + n) s)
-all_take zero m s = let e : m + 0 ≡ m = omega arith in rw e
-all_take (suc n) m [] = let e : m + suc n ≡ suc (m + n) = omega arith in rw e (ap (all high_byte) (take-nil {A = ℕ} m))
-all_take (suc n) m (b ∷ s) =
-    let e : m + suc n ≡ suc (m + n) = omega arith in
-    rw e (and_together (high_byte b) (all high_byte (take n s)) (all high_byte (take m (drop n s))) ∙ ap (λ t. high_byte b && t) (all_take n m s))
-
-and-four : (a b c d : Bool) → ((a && b) && (c && d)) ≡ (a && (b && (c && (d && true))))
-and-four true true true true = refl
-and-four true true true false = refl
-and-four true true false d = refl
-and-four true false c d = refl
-and-four false b c d = refl
-
--- the tests as the code makes them
+-- eight bytes as the code tests them
 module _ (s : List ℕ) (i : ℕ) where
-  abbrev high_at : ℕ → Bool
-  high_at k = high_byte (get_or s k 0)
-
-  -- the byte at a place, and the bytes behind it
-  then_at : (k j : ℕ) → k + 1 ≡ j → k < length s → drop k s ≡ get_or s k 0 ∷ drop j s
-  then_at k j e h = at s k h ∙ rw e
-
-  pub four-high : i + 4 ≤ length s → ((high_at i && high_at (i + 1)) && (high_at (i + 2) && high_at (i + 3))) ≡ all high_byte (take 4 (drop i s))
-  four-high h =
-      let t₃ = then_at (i + 3) (i + 4) (omega arith) (omega arith) in
-      let t₂ = then_at (i + 2) (i + 3) (omega arith) (omega arith) ∙ ap (λ t. get_or s (i + 2) 0 ∷ t) t₃ in
-      let t₁ = then_at (i + 1) (i + 2) (omega arith) (omega arith) ∙ ap (λ t. get_or s (i + 1) 0 ∷ t) t₂ in
-      and-four (high_at i) (high_at (i + 1)) (high_at (i + 2)) (high_at (i + 3)) ∙ sym (ap (λ t. all high_byte (take 4 t)) (at s i (omega arith) ∙ ap (λ t. get_or s i 0 ∷ t) t₁))
-
-  pub eight-high : (all high_byte (take 4 (drop i s)) && all high_byte (take 4 (drop (i + 4) s))) ≡ all high_byte (take 8 (drop i s))
-  eight-high = ap (λ t. all high_byte (take 4 (drop i s)) && all high_byte (take 4 t)) (sym (drop-drop 4 i s)) ∙ all_take 4 4 (drop i s)
+  pub eight-high : (r : Bool) → r ≡ fold (λ high b. high && high_byte b) true (take (i + 8 - i) (drop i s)) → r ≡ true → all high_byte (take 8 (drop i s)) ≡ true
+  eight-high r e h =
+      let n : i + 8 - i ≡ 8 = omega arith in
+      sym (fold-high true (take 8 (drop i s))) ∙ ap (λ k. fold (λ high b. high && high_byte b) true (take k (drop i s))) (sym n) ∙ sym e ∙ h
 
   pub no-end_yet : i ≤ length s → NoEnd s i i
   no-end_yet h = record { low = omega arith; high = h; run = refl }
@@ -208,8 +184,8 @@ module _ (s : List ℕ) (i e : ℕ) (z : e ≡ i + plain_run (drop i s)) where
       sound-is (drop i s) ∙ over-run 0 (drop i s) ∙ ap (λ k. sound_after k (lines_from false (drop p (drop i s)))) n
       ∙ ap (λ u. sound_after (e - i) (lines_from false u)) (drop-drop p i s ∙ ap (λ k. drop k s) (sym z))
 
-  pub sound-over : length s ≤ e → is_some (lines_of (drop i s)) ≡ false
-  sound-over h = behind ∙ rw (drop_of_length-le s h)
+  over : length s ≤ e → is_some (lines_of (drop i s)) ≡ false
+  over h = behind ∙ rw (drop_of_length-le s h)
 
   pub sound-last : e < length s → (get_or s e 0 ≡ 13 → ⊥) → is_some (lines_of (drop i s)) ≡ last_byte i e (drop e s)
   unfolding last_byte
@@ -239,43 +215,33 @@ module _ (s : List ℕ) (i e : ℕ) (z : e ≡ i + plain_run (drop i s)) where
         go [] = refl
         go (x ∷ t) = pick (eqb x 10) (lines_from false t)
 
--- nothing left, and nothing ended the lines
-pub sound-nothing : (s : List ℕ) (i : ℕ) → length s ≤ i → is_some (lines_of (drop i s)) ≡ false
-unfolding lines_of
-sound-nothing s i h = rw (drop_of_length-le s h)
+-- nothing ended the line
+pub sound-over : (s : List ℕ) (i : ℕ) → length s ≤ i + plain_run (drop i s) → is_some (lines_of (drop i s)) ≡ false
+sound-over s i h = over s i (i + plain_run (drop i s)) refl h
 
--- the three bytes as the code tests them
-pub end-cr : (b : ℕ) → b ≡ 13 → end_byte b ≡ true
-end-cr b e = rw (eq-eqb b 13 e)
+and_together : (a b c : Bool) → ((a && b) && c) ≡ (a && (b && c))
+and_together true b c = refl
+and_together false b c = refl
 
-pub end_sub : (b : ℕ) → b ≡ 26 → end_byte b ≡ true
-end_sub b e = rw e
+nil-end : (s : List ℕ) (e : ℕ) → e < length s → is_nil (drop (e + 1) s) ≡ eqb (e + 1) (length s)
+nil-end s e h = go (leb (length s) (e + 1)) refl
+  where
+    full : (t : List ℕ) → 0 < length t → is_nil t ≡ false
+    full [] k = absurd (omega arith)
+    full (x ∷ t) k = refl
 
-pub end_by : (b : ℕ) → (b ≡ 13 → ⊥) → (b ≡ 26 → ⊥) → end_byte b ≡ eqb b 10
-end_by b e f = rw (ne_eqb b 13 e, ne_eqb b 26 f)
+    go : (q : Bool) → leb (length s) (e + 1) ≡ q → is_nil (drop (e + 1) s) ≡ eqb (e + 1) (length s)
+    go true q = rw (drop_of_length-le s {i = e + 1} (leb-true _ _ q)) (sym (eq-eqb (e + 1) (length s) (omega (arith, leb-true (length s) (e + 1) q))))
+    go false q =
+        let k = leb-false (length s) (e + 1) q in
+        full (drop (e + 1) s) (omega (arith, k, length-drop (e + 1) s)) ∙ sym (ne_eqb (e + 1) (length s) (λ z. omega (arith, z, k)))
 
-module _ (s : List ℕ) (i e : ℕ) (h : e < length s) where
-  pub last-not : (get_or s e 0 ≡ 26 → ⊥) → last_byte i e (drop e s) ≡ false
-  unfolding last_byte
-  last-not c = rw (at s e h, ne_eqb _ _ c)
-
-  pub last-inside : get_or s e 0 ≡ 26 → (e ≡ i → ⊥) → last_byte i e (drop e s) ≡ false
-  unfolding last_byte
-  last-inside c d = rw (at s e h, eq-eqb _ _ c, ne_eqb _ _ d)
-
-  pub last-by : get_or s e 0 ≡ 26 → e ≡ i → last_byte i e (drop e s) ≡ eqb (e + 1) (length s)
-  unfolding last_byte
-  last-by c d = rw (at s e h, eq-eqb _ _ c, eq-eqb _ _ d) (go (leb (length s) (e + 1)) refl)
-    where
-      full : (t : List ℕ) → 0 < length t → is_nil t ≡ false
-      full [] k = absurd (omega arith)
-      full (x ∷ t) k = refl
-
-      go : (q : Bool) → leb (length s) (e + 1) ≡ q → is_nil (drop (e + 1) s) ≡ eqb (e + 1) (length s)
-      go true q = rw (drop_of_length-le s {i = e + 1} (leb-true _ _ q)) (sym (eq-eqb (e + 1) (length s) (omega (arith, leb-true (length s) (e + 1) q))))
-      go false q =
-          let k = leb-false (length s) (e + 1) q in
-          full (drop (e + 1) s) (omega (arith, k, length-drop (e + 1) s)) ∙ sym (ne_eqb (e + 1) (length s) (λ z. omega (arith, z, k)))
+-- a volume's last byte as the code tests it
+pub last-is : (s : List ℕ) (i e : ℕ) → e < length s → ((eqb (get_or s e 0) 26 && eqb e i) && eqb (e + 1) (length s)) ≡ last_byte i e (drop e s)
+unfolding last_byte
+last-is s i e h =
+    let b = eqb (get_or s e 0) 26 in
+    and_together b (eqb e i) (eqb (e + 1) (length s)) ∙ ap (λ t. b && (eqb e i && t)) (sym (nil-end s e h)) ∙ sym (ap (last_byte i e) (at s e h))
 
 -- ── parts of the spool ──
 module _ (s : List ℕ) (p n : ℕ) where
@@ -283,8 +249,18 @@ module _ (s : List ℕ) (p n : ℕ) where
   unfolding lines_of
   part_none h = rw (drop_of_length-le s h, take-nil {A = ℕ} n)
 
-  pub part-all : length s - p < n → take n (drop p s) ≡ drop p s
-  part-all h = take_all n (drop p s) (omega (arith, length-drop p s))
+  -- no more than there are
+  pub part-most : p ≤ length s → take (min (length s) (p + n) - p) (drop p s) ≡ take n (drop p s)
+  part-most h = go (leb (length s) (p + n)) refl
+    where
+      go : (q : Bool) → leb (length s) (p + n) ≡ q → take (min (length s) (p + n) - p) (drop p s) ≡ take n (drop p s)
+      go true q =
+          let k = leb-true (length s) (p + n) q in
+          take_all _ (drop p s) (omega (arith, k, h, length-drop p s)) ∙ sym (take_all n (drop p s) (omega (arith, k, length-drop p s)))
+      go false q =
+          let k = leb-false (length s) (p + n) q in
+          let e : min (length s) (p + n) - p ≡ n = omega (arith, k) in
+          ap (λ j. take j (drop p s)) e
 
 -- ── all volumes ──
 module _ (s : List ℕ) (l : Layout) where
@@ -312,6 +288,13 @@ module _ (s : List ℕ) (l : Layout) where
   pub unsound-over : (i : ℕ) → most_volumes ≤ i → unsound_from s l (most_volumes - i) i ≡ 0
   unfolding unsound_from
   unsound-over i h = let e : most_volumes - i ≡ 0 = omega arith in rw e
+
+  pub unsound-past : (i : ℕ) → min most_volumes l.count ≤ i → unsound_from s l (most_volumes - i) i ≡ 0
+  unsound-past i h = go (leb l.count i) refl
+    where
+      go : (t : Bool) → leb l.count i ≡ t → unsound_from s l (most_volumes - i) i ≡ 0
+      go true q = unsound-none (most_volumes - i) i (leb-true _ _ q)
+      go false q = unsound-over i (omega (arith, leb-false l.count i q, h))
 
   pub unsound-start : first_unsound s l ≡ unsound_from s l most_volumes 0
   unfolding first_unsound

@@ -9,7 +9,7 @@ use native.Mathlib.Omega.{arith}
 use lib.Dec.{eqb, leb}
 use lib.ListN.{length, get_or, take, drop, replicate, drop_of_length-le, length-take}
 use lib.Seq.{take-take}
-use borrow.Author.Tests.{eq-eqb, ne_eqb, le-leb, lt-leb, eqb-true}
+use borrow.Author.Tests.{eq-eqb, le-leb, lt-leb, eqb-true}
 use Rattle.leaves.specs.Bytes.{up_to}
 use Rattle.leaves.proofs.Cuts.{up_to-le, up_to-take}
 use Rattle.rules.proofs.Chains.{and_false, clash}

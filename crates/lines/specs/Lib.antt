@@ -3,4 +3,4 @@ pub mod VolumeNames
 pub mod VolumePlaces
 pub mod LineForms
 pub mod LineLook
-pub mod LineSketch
+pub mod LineFlaw

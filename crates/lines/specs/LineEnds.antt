@@ -1,5 +1,5 @@
 -- Rule 3 by place; that it says what Spool.lines_of says is proved in proofs/SoundEnds.
-use Rattle.std.specs.Prelude.{ℕ, zero, suc, ◌+◌, ◌≤◌, ◌≡◌, Bool, false, cond, ◌&&◌, ◌||◌, List, [], ◌∷◌, eqb, ltb, length, get_or, take, drop}
+use Rattle.std.specs.Prelude.{ℕ, zero, suc, ◌+◌, ◌≤◌, ◌≡◌, Bool, false, cond, ◌&&◌, ◌||◌, List, [], ◌∷◌, eqb, ltb, length, get_or, take, drop, Option, ◌<◌, MatchOption}
 use Rattle.rules.specs.Base.{is_nil, is_some}
 use Rattle.rules.specs.Spool.{most_volumes, lines_of}
 use Rattle.lines.specs.declared.Layout.{Layout}
@@ -22,6 +22,10 @@ pub record NoEnd (s : List ℕ) (i j : ℕ) : Type 0 where
   pub low : i ≤ j
   pub high : j ≤ length s
   pub run : i + plain_run (drop i s) ≡ j + plain_run (drop j s)
+
+-- where the first of some bytes stands, if not behind all
+abbrev pub Stands : Option ℕ → ℕ → ℕ → Type 0
+Stands o i n = MatchOption o (n ≤ i) (λ e. (e ≡ i) × (e < n))
 
 -- one byte 1A and no more, at a place where a line starts
 unfoldable pub last_byte : ℕ → ℕ → List ℕ → Bool

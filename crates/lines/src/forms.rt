@@ -1,9 +1,8 @@
 // A line of a volume: its form, by the places of its parts, and where the next line starts.
-ghost use Rattle.std.specs.Prelude.{◌≡◌, ◌+◌, ◌<◌, ◌≤◌, length};
+ghost use Rattle.std.specs.Prelude.{◌≡◌, ◌+◌, ◌<◌, ◌≤◌, length, Some};
 ghost use Rattle.rules.specs.Lines.{line_form_of};
-ghost use Rattle.lines.specs.LineForms.{refused_as};
+ghost use Rattle.lines.specs.LineFlaw.{told, Formed, bare_form, equal_form, brace_form};
 ghost use Rattle.lines.specs.LineLook.{seen_at, look_in};
-ghost use Rattle.lines.specs.LineSketch.{keyless_sketch, bare_kind, equal_sketch, brace_sketch, keyless_form, sketch_form, Sketched};
 
 use crate::ends::cr_from;
 use crate::runs::{clean_run, indent, key_run, opens_at};
@@ -11,187 +10,84 @@ use crate::{MOST_BYTES, Seen};
 use leaves::bytes::spells;
 use rules::{Equation, LineForm, Opener, Refusal, Span};
 
-// The kinds of a sketch: the forms of a line, and the two refusals: a byte that is not allowed (4), no form (5).
-const SKETCH_IGNORED: u32 = 0;
-
-const SKETCH_CLOSE: u32 = 1;
-
-const SKETCH_EOF: u32 = 2;
-
-const SKETCH_OPENS: u32 = 3;
-
-const SKETCH_EQUALS: u32 = 4;
-
-const SKETCH_BAD_BYTES: u32 = 5;
-
-const SKETCH_NO_FORM: u32 = 6;
-
-// A line in plain numbers: its kind, the place and the size of its key, the place and the length of what stands behind its `=`. Its form
-// is made of them once, as forms that are made in many branches are copied through memory.
-#[derive(Clone, Copy)]
-struct Sketch {
-    kind: u32,
-    first: u32,
-    size: u32,
-    rest: u32,
-    len: u32,
+// Why a line is refused: a byte that is not allowed (4), no form (5).
+#[derive(Clone, Copy, Debug, PartialEq, Eq)]
+enum Flaw {
+    BadBytes,
+    NoForm,
 }
 
-// A line that is told by its kind.
-fn keyless(kind: u32) -> Sketch
-    ensures { result ≡ keyless_sketch kind }
+// A line without a key, by its bytes behind the blanks.
+fn bare_form(s: &[u8]) -> Result<LineForm, Flaw>
+    ensures { result ≡ bare_form s.now }
 {
-    Sketch {
-        kind: kind,
-        first: 0,
-        size: 0,
-        rest: 0,
-        len: 0,
-    }
-}
-
-// The kind of a line without a key, by its bytes behind the blanks.
-fn bare_kind(s: &[u8]) -> u32
-    ensures { result ≡ bare_kind s.now }
-{
-    if s.len() == 0 {
-        return SKETCH_IGNORED;
+    if s.is_empty() {
+        return Ok(LineForm::Ignored);
     }
     if spells(s, b"}") {
-        return SKETCH_CLOSE;
+        return Ok(LineForm::Close);
     }
     if spells(s, b"EOF") {
-        return SKETCH_EOF;
+        return Ok(LineForm::Eof);
     }
-    SKETCH_NO_FORM
+    Err(Flaw::NoForm)
 }
 
 // A key with an `=` behind it, in a line that runs to the place `end`.
-fn equal_sketch(first: u32, size: u32, end: u32) -> Sketch
-    requires { first + size + 1 ≤ end }
-    ensures { result ≡ equal_sketch first size end }
+fn equal_form(key: Span, end: u32) -> Result<LineForm, Flaw>
+    requires { key.at + key.len + 1 ≤ end }
+    ensures { result ≡ equal_form key.at key.len end }
 {
-    if size == 0 {
-        return keyless(SKETCH_NO_FORM);
+    if key.len == 0 {
+        return Err(Flaw::NoForm);
     }
-    let rest = first + size + 1;
-    Sketch {
-        kind: SKETCH_EQUALS,
-        first: first,
-        size: size,
-        rest: rest,
-        len: end - rest,
-    }
+    let at = key.at + key.len + 1;
+    let rest = Span { at, len: end - at };
+    Ok(LineForm::Equals(Equation { key, rest }))
 }
 
 // A key with a `:{` behind it: nothing may follow.
-fn brace_sketch(first: u32, size: u32, end: u32) -> Sketch
-    requires { first + size + 2 ≤ end }
-    ensures { result ≡ brace_sketch first size end }
+fn brace_form(key: Span, end: u32) -> Result<LineForm, Flaw>
+    requires { key.at + key.len + 2 ≤ end }
+    ensures { result ≡ brace_form key.at key.len end }
 {
-    if size == 0 {
-        return keyless(SKETCH_NO_FORM);
+    if key.len == 0 || key.at + key.len + 2 != end {
+        return Err(Flaw::NoForm);
     }
-    if first + size + 2 != end {
-        return keyless(SKETCH_NO_FORM);
-    }
-    Sketch {
-        kind: SKETCH_OPENS,
-        first: first,
-        size: size,
-        rest: 0,
-        len: 0,
-    }
+    Ok(LineForm::Opens(Opener { key }))
 }
 
 // A line's bytes, whose first stands at a place of the spool.
-fn sketch_of(l: &[u8], at: u32) -> Sketch
+fn form_at(l: &[u8], at: u32) -> Result<LineForm, Flaw>
     requires { at + length l.now ≤ 61440 }
-    ensures { Sketched at l.now result }
+    ensures { Formed at l.now result }
 {
-    if l.len() == 0 {
-        return keyless(SKETCH_IGNORED);
-    }
-    if l[0] == b'#' {
-        return keyless(SKETCH_IGNORED);
+    if l.is_empty() || l[0] == b'#' {
+        return Ok(LineForm::Ignored);
     }
     let n = indent(l);
     let k = key_run(l, n);
     if k == l.len() {
-        return keyless(bare_kind(&l[n..]));
+        return bare_form(&l[n..]);
     }
-    let first = at + n as u32;
-    let size = (k - n) as u32;
+    let key = Span {
+        at: at + n as u32,
+        len: (k - n) as u32,
+    };
     let end = at + l.len() as u32;
     if l[k] == b'=' {
         if clean_run(l, k + 1) != l.len() {
-            return keyless(SKETCH_BAD_BYTES);
+            return Err(Flaw::BadBytes);
         }
-        return equal_sketch(first, size, end);
+        return equal_form(key, end);
     }
     if opens_at(l, k) {
         if clean_run(l, k + 2) != l.len() {
-            return keyless(SKETCH_BAD_BYTES);
+            return Err(Flaw::BadBytes);
         }
-        return brace_sketch(first, size, end);
+        return brace_form(key, end);
     }
-    keyless(SKETCH_BAD_BYTES)
-}
-
-fn refused(number: u8, volume: u8, line: u32) -> LineForm
-    ensures { result ≡ refused_as number volume line }
-{
-    LineForm::Refused(Refusal {
-        number: number,
-        volume: volume,
-        line: line,
-    })
-}
-
-// The form of a line without a key, by its kind.
-fn keyless_form(kind: u32, volume: u8, line: u32) -> LineForm
-    ensures { result ≡ keyless_form volume line kind }
-{
-    if kind == SKETCH_IGNORED {
-        return LineForm::Ignored;
-    }
-    if kind == SKETCH_CLOSE {
-        return LineForm::Close;
-    }
-    if kind == SKETCH_EOF {
-        return LineForm::Eof;
-    }
-    if kind == SKETCH_BAD_BYTES {
-        return refused(4, volume, line);
-    }
-    refused(5, volume, line)
-}
-
-// The form that a sketch tells.
-fn formed(f: Sketch, volume: u8, line: u32) -> LineForm
-    ensures { result ≡ sketch_form volume line f }
-{
-    if f.kind == SKETCH_EQUALS {
-        return LineForm::Equals(Equation {
-            key: Span {
-                at: f.first,
-                len: f.size,
-            },
-            rest: Span {
-                at: f.rest,
-                len: f.len,
-            },
-        });
-    }
-    if f.kind == SKETCH_OPENS {
-        return LineForm::Opens(Opener {
-            key: Span {
-                at: f.first,
-                len: f.size,
-            },
-        });
-    }
-    keyless_form(f.kind, volume, line)
+    Err(Flaw::BadBytes)
 }
 
 // The form of a line: its bytes up to its CR, whose first stands at a place of the spool.
@@ -199,20 +95,29 @@ fn line_form(l: &[u8], at: u32, volume: u8, line: u32) -> LineForm
     requires { at + length l.now ≤ 61440 }
     ensures { result ≡ line_form_of volume line at l.now }
 {
-    formed(sketch_of(l, at), volume, line)
+    let number = match form_at(l, at) {
+        Ok(form) => return form,
+        Err(Flaw::BadBytes) => 4,
+        Err(Flaw::NoForm) => 5,
+    };
+    LineForm::Refused(Refusal {
+        number,
+        volume,
+        line,
+    })
 }
 
 // A line with this form, its CR at a place.
-fn seen(form: LineForm, cr: u32, end: u32) -> Option<Seen>
+fn seen(form: LineForm, cr: u32, end: u32) -> Seen
     requires { cr < 61440 }
-    ensures { result ≡ seen_at form cr end }
+    ensures { Some result ≡ seen_at form cr end }
 {
     let next = cr + 2;
-    Some(Seen {
-        form: form,
-        next: next,
+    Seen {
+        form,
+        next,
         last: next + 1 == end,
-    })
+    }
 }
 
 // The line that starts at a place of the spool, in a volume whose bytes stand there from `base` on; other places are those of no line.
@@ -233,10 +138,7 @@ pub fn look(body: &[u8], base: u32, at: u32, volume: u8, line: u32) -> Option<Se
     if body.len() < from {
         return None;
     }
-    let to = cr_from(body, from);
-    if to == body.len() {
-        return None;
-    }
+    let to = cr_from(body, from)?;
     let form = line_form(&body[from..to], at, volume, line);
-    seen(form, base + to as u32, base + body.len() as u32)
+    Some(seen(form, base + to as u32, base + body.len() as u32))
 }

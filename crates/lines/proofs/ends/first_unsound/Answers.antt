@@ -1,7 +1,5 @@
 use mathlib.Core.Path.{sym, ◌∙◌}
 use native.Mathlib.Omega.{arith}
-use Prim.Native.Nat.{◌-◌}
-use Rattle.rules.specs.Spool.{most_volumes}
 use borrow.Author.Tests.{not-true, not-false}
 use Rattle.lines.proofs.SoundEnds as laws
 use Rattle.lines.proofs.ends.first_unsound.Goals as goal
@@ -9,14 +7,11 @@ use Rattle.lines.proofs.ends.first_unsound.Goals as goal
 pub loop-i-init : goal.loop-i-init
 loop-i-init c = (omega arith, laws.unsound-start c.args.s.now c.args.l)
 
-pub returns-then-count-i : goal.returns-then-count-i
-returns-then-count-i c = sym (c.loop-i.invariant.1 ∙ laws.unsound-none c.args.s.now c.args.l (most_volumes - c.loop-i.i) c.loop-i.i c.if-count-i.true)
-
 pub returns-then-not-sound_at : goal.returns-then-not-sound_at
-returns-then-not-sound_at c = sym (c.loop-i.invariant.1 ∙ laws.unsound-here c.args.s.now c.args.l c.loop-i.i c.loop-i-test.true c.if-count-i.false (sym c.sound_at.ensures ∙ not-true _ c.if-not-sound_at.true-raw))
+returns-then-not-sound_at c = sym (c.loop-i.invariant.1 ∙ laws.unsound-here c.args.s.now c.args.l c.loop-i.i (omega arith) (omega arith) (sym c.sound_at.ensures ∙ not-true _ c.if-not-sound_at.true-raw))
 
 pub loop-i-preserved : goal.loop-i-preserved
-loop-i-preserved c = (omega arith, c.loop-i.invariant.1 ∙ laws.unsound-later c.args.s.now c.args.l c.loop-i.i c.loop-i-test.true c.if-count-i.false (sym c.sound_at.ensures ∙ not-false _ c.if-not-sound_at.false-raw))
+loop-i-preserved c = (omega arith, c.loop-i.invariant.1 ∙ laws.unsound-later c.args.s.now c.args.l c.loop-i.i (omega arith) (omega arith) (sym c.sound_at.ensures ∙ not-false _ c.if-not-sound_at.false-raw))
 
 pub returns : goal.returns
-returns c = sym (c.loop-i.invariant.1 ∙ laws.unsound-over c.args.s.now c.args.l c.loop-i.i c.loop-i-test.false)
+returns c = sym (c.loop-i.invariant.1 ∙ laws.unsound-past c.args.s.now c.args.l c.loop-i.i (omega arith))

@@ -1,18 +1,16 @@
-use mathlib.Core.Path.{◌≡◌, sym, ◌∙◌, ap}
+use mathlib.Core.Path.{sym, ◌∙◌, ap}
 use native.Mathlib.Omega.{arith}
-use Prim.Native.Nat.{◌-◌, ◌+◌}
+use Prim.Native.Nat.{◌-◌}
 use lib.ListN.{drop, take}
 use Rattle.rules.specs.Base.{is_some}
 use Rattle.rules.specs.Spool.{lines_of}
-use Rattle.lines.proofs.VolumePlaces.{tail-is}
 use Rattle.lines.proofs.SoundEnds as laws
 use Rattle.lines.proofs.ends.sound_at.Goals as goal
 
 pub returns-then-s-from : goal.returns-then-s-from
 returns-then-s-from c = sym (laws.part_none c.args.s.now c.args.place c.args.size c.if-s-from.true)
 
-pub returns-then-s-from-2 : goal.returns-then-s-from-2
-returns-then-s-from-2 c = c.sound_lines.ensures ∙ ap (λ t. is_some (lines_of t)) (tail-is c.args.s.now c.args.place ∙ sym (laws.part-all c.args.s.now c.args.place c.args.size c.if-s-from-2.true))
-
 pub returns : goal.returns
-returns c = c.sound_lines-2.ensures ∙ (let e : c.args.place + c.args.size - c.args.place ≡ c.args.size = omega arith in ap (λ k. is_some (lines_of (take k (drop c.args.place c.args.s.now)))) e)
+returns c =
+    let p = laws.part-most c.args.s.now c.args.place c.args.size (omega arith) in
+    c.sound_lines.ensures ∙ ap (λ k. is_some (lines_of (take (k - c.args.place) (drop c.args.place c.args.s.now)))) c.min-to.ensures ∙ ap (λ t. is_some (lines_of t)) p

@@ -19,27 +19,18 @@ returns-then-at-base c = sym (laws.look-early c.args.volume c.args.line c.args.b
 pub returns-then-body-from : goal.returns-then-body-from
 returns-then-body-from c = sym (laws.look-behind c.args.volume c.args.line c.args.base c.args.at c.args.body.now (omega arith))
 
-pub returns-then-to-body : goal.returns-then-to-body
-returns-then-to-body c = sym (laws.look-ends c.args.volume c.args.line c.args.base c.args.at c.args.body.now (omega arith) c.if-at-base.false (omega arith) (c.args.at - c.args.base) c.cr_from-to.result refl c.cr_from-to.ensures c.if-to-body.true)
-
-pub slice_bounds-line_form-end : goal.slice_bounds-line_form-end
-slice_bounds-line_form-end c = laws.cr-inside c.args.body.now (c.args.at - c.args.base) c.cr_from-to.result c.if-body-from.false c.cr_from-to.ensures
+pub returns-in_err-to : goal.returns-in_err-to
+returns-in_err-to c = c.from_residual.ensures ∙ sym (laws.look-ends c.args.volume c.args.line c.args.base c.args.at c.args.body.now (omega arith) c.if-at-base.false (omega arith) (c.args.at - c.args.base) refl c.in_err-to.ensures)
 
 pub line_form-form-requires : goal.line_form-form-requires
 line_form-form-requires c =
-    let inside = laws.cr-inside c.args.body.now (c.args.at - c.args.base) c.cr_from-to.result c.if-body-from.false c.cr_from-to.ensures in
+    let to = c.in_ok-to.ensures in
     let part = drop (c.args.at - c.args.base) c.args.body.now in
     let long = length-drop (c.args.at - c.args.base) c.args.body.now in
-    omega (arith, inside, length-take-le (c.cr_from-to.result - (c.args.at - c.args.base)) part (omega (arith, inside, long)))
-
-pub overflow_cast-to : goal.overflow_cast-to
-overflow_cast-to c = omega (arith, laws.cr-inside c.args.body.now (c.args.at - c.args.base) c.cr_from-to.result c.if-body-from.false c.cr_from-to.ensures)
-
-pub overflow_add-base : goal.overflow_add-base
-overflow_add-base c = omega (arith, laws.cr-inside c.args.body.now (c.args.at - c.args.base) c.cr_from-to.result c.if-body-from.false c.cr_from-to.ensures)
-
-pub seen-requires : goal.seen-requires
-seen-requires c = omega (arith, c.if-to-body.false, laws.cr-inside c.args.body.now (c.args.at - c.args.base) c.cr_from-to.result c.if-body-from.false c.cr_from-to.ensures)
+    omega (arith, to.0, to.1, length-take-le (c.in_ok-to.to - (c.args.at - c.args.base)) part (omega (arith, to.0, to.1, long)))
 
 pub returns : goal.returns
-returns c = c.seen.ensures ∙ ap (λ form. seen_at form (c.args.base + c.cr_from-to.result) (c.args.base + length c.args.body.now)) c.line_form-form.ensures ∙ laws.look-found c.args.volume c.args.line c.args.base c.args.at c.args.body.now (omega arith) c.if-at-base.false (omega arith) (c.args.at - c.args.base) c.cr_from-to.result refl c.cr_from-to.ensures c.if-to-body.false
+returns c =
+    let to = c.in_ok-to.ensures in
+    c.seen.ensures ∙ ap (λ form. seen_at form (c.args.base + c.in_ok-to.to) (c.args.base + length c.args.body.now)) c.line_form-form.ensures
+    ∙ laws.look-found c.args.volume c.args.line c.args.base c.args.at c.args.body.now (omega arith) c.if-at-base.false (omega arith) (c.args.at - c.args.base) refl c.in_ok-to.to to.0 to.1

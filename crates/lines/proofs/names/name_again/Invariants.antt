@@ -1,4 +1,4 @@
-use Prim.Native.Nat.{◌+◌, ◌-◌, ◌≤◌, ◌<◌}
+use Prim.Native.Nat.{◌+◌, ◌≤◌, ◌<◌}
 use mathlib.Core.Path.{◌≡◌}
 use lib.ListN.{length, get_or, drop}
 use Rattle.rules.specs.Base.{among}
@@ -8,6 +8,3 @@ use Rattle.lines.proofs.names.name_again.Given as goal
 
 abbrev pub invariant-loop-j : goal.invariant-loop-j
 invariant-loop-j l = (l.i < l.j) × (l.j ≤ length l.places) × (among (raw_name l.s (get_or l.places l.i 0)) (map (raw_name l.s) (drop (l.i + 1) l.places)) ≡ among (raw_name l.s (get_or l.places l.i 0)) (map (raw_name l.s) (drop l.j l.places)))
-
-
-
