@@ -10,6 +10,8 @@ use crate::{MOST_BYTES, Seen};
 use leaves::bytes::spells;
 use rules::{Equation, LineForm, Opener, Refusal, Span};
 
+const COMMENT: u8 = b'#';
+
 // Why a line is refused: a byte that is not allowed (4), no form (5).
 #[derive(Clone, Copy, Debug, PartialEq, Eq)]
 enum Flaw {
@@ -62,7 +64,7 @@ fn form_at(l: &[u8], at: u32) -> Result<LineForm, Flaw>
     requires { at + length l.now ≤ 61440 }
     ensures { Formed at l.now result }
 {
-    if l.is_empty() || l[0] == b'#' {
+    if l.is_empty() || l[0] == COMMENT {
         return Ok(LineForm::Ignored);
     }
     let n = indent(l);
