@@ -1,2 +1,2 @@
-pub mod Homes
+pub mod Found
 pub mod Unique

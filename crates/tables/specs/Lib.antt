@@ -1,3 +1,4 @@
 pub mod Numbering
 pub mod Rows
 pub mod Tables
+pub mod Entries

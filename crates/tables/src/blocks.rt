@@ -1,29 +1,21 @@
-// The tables of document 01: for each block the row of a key.
+// The tables of document 01: for each block its rows, each with its key.
 // Made by tools/make-keys from the definitions' rows: change those, or the script.
-ghost use Rattle.std.specs.Prelude.{◌≡◌};
-ghost use Rattle.rules.specs.Rows.{find};
-ghost use Rattle.rules.specs.Blocks.{top_table, file_table, range_table, base_table, elec_table, sym_table, later_table, drawing_table, defines_table, symbol_table, element_table};
-ghost use Rattle.rules.specs.Figures.{placed_table, wire_table};
-ghost use Rattle.tables.specs.Rows.{found_of, found_for_line};
-ghost use Rattle.tables.specs.Tables.{header_texts, behind_eight};
-
 use crate::keys::{
-    is_air, is_all_ele, is_all_line, is_arc, is_b_sym, is_base, is_cad, is_circle, is_circuit,
-    is_corp, is_date, is_direc, is_drawer, is_drawing_format, is_drawname, is_e_cirno, is_e_sym,
-    is_e_symbol, is_e_wire, is_elec, is_element, is_element_block, is_file_format, is_floor_height,
-    is_hard, is_hide, is_hight, is_layer, is_layer_name, is_length, is_line, is_make, is_name,
-    is_next_file, is_non, is_num, is_os, is_piend, is_pipe, is_pos, is_power, is_project, is_range,
-    is_s_base, is_s_elec, is_scale, is_serial, is_size, is_sym, is_symbol, is_symbol_define,
-    is_tel, is_text, is_this_ele, is_this_line, is_time, is_ver, is_wall,
+    AIR, ALL_ELE, ALL_LINE, ARC, B_SYM, BASE, CAD, CIRCLE, CIRCUIT, CORP, DATE, DIREC, DRAWER,
+    DRAWING_FORMAT, DRAWNAME, E_CIRNO, E_SYM, E_SYMBOL, E_WIRE, ELEC, ELEMENT, ELEMENT_BLOCK,
+    FILE_FORMAT, FLOOR_HEIGHT, HARD, HIDE, HIGHT, LAYER, LAYER_NAME, LENGTH, LINE, MAKE, NAME,
+    NEXT_FILE, NON, NUM, OS, PIEND, PIPE, POS, POWER, PROJECT, RANGE, S_BASE, S_ELEC, SCALE,
+    SERIAL, SIZE, SYM, SYMBOL, SYMBOL_DEFINE, TEL, TEXT, THIS_ELE, THIS_LINE, TIME, VER, WALL,
 };
-use crate::rows::{free_text, from, inner, may_be_empty, plain, several, text, times, with_state};
+use crate::rows::{Entry, row};
 use crate::{
     ACROSS_ARC, ACROSS_ENDS, ACROSS_POWER, HOLDS_BLOCK, HOLDS_EITHER, HOLDS_HEADED, HOLDS_NOTHING,
-    HOLDS_RATIO, HOLDS_SERIALS, HOLDS_SHEET, HOLDS_VOLUME_NAME, HOLDS_WIRE_SERIAL, HOLDS_WORD,
-    PART_ANY_SIGN, PART_CLOCK, PART_COUNT, PART_DAY, PART_LAYER_ID, PART_NOT_NEGATIVE,
+    HOLDS_RATIO, HOLDS_SERIALS, HOLDS_SHEET, HOLDS_TEXT, HOLDS_VOLUME_NAME, HOLDS_WIRE_SERIAL,
+    HOLDS_WORD, PART_ANY_SIGN, PART_CLOCK, PART_COUNT, PART_DAY, PART_LAYER_ID, PART_NOT_NEGATIVE,
     PART_POSITION, PART_RANGE_0, PART_RANGE_0_1, PART_RANGE_0_2, PART_RANGE_1, PART_SYMBOL_RANGE,
-    PART_WIRE_RANGE, Row, TIMES_ANY,
+    PART_WIRE_RANGE, TIMES_ANY,
 };
+use rules::{Digits, TEXT_LIMITS};
 
 // several forms, two digits each, the first one last: type,x,y and the like
 const WALL_FORMS: u64 = 20_20;
@@ -42,374 +34,131 @@ const NUM_FORMS: u64 = 24_21_21_07_05;
 
 const POWER_FORMS: u64 = 7_03_03;
 
-// the free texts, by their numbers in TEXT_LIMITS
-const CAD: u8 = 0;
-
-const OS: u8 = 1;
-
-const HARD: u8 = 2;
-
-const VER: u8 = 3;
-
-const CORP: u8 = 4;
-
-const MAKE: u8 = 5;
-
-const TEL: u8 = 6;
-
-const NAME: u8 = 7;
-
-const PROJECT: u8 = 8;
-
-const DRAWNAME: u8 = 9;
-
-const DRAWER: u8 = 10;
-
 // sets of bytes
+const ASCII: u8 = 1;
+
+const ANY_BYTES: u8 = 0;
+
+const TELEPHONE: u8 = 3;
+
 const LETTERS_AND_DIGITS: u8 = 2;
 
 const CIRCUIT_BYTES: u8 = 4;
 
 // Outside all blocks; the order of the blocks is judged by the reader.
-pub(crate) fn top_row(k: &[u8]) -> Option<Row>
-    ensures { found_for_line (find k.now top_table) ≡ found_of result }
-{
-    if is_file_format(k) {
-        return Some(times(inner(0, HOLDS_BLOCK, 0, 0, 0), TIMES_ANY));
-    }
-    if is_drawing_format(k) {
-        return Some(times(inner(1, HOLDS_BLOCK, 0, 0, 0), TIMES_ANY));
-    }
-    if is_symbol_define(k) {
-        return Some(times(inner(2, HOLDS_BLOCK, 0, 0, 0), TIMES_ANY));
-    }
-    if is_element_block(k) {
-        return Some(times(inner(3, HOLDS_BLOCK, 0, 0, 0), TIMES_ANY));
-    }
-    None
-}
-
-// The eight texts of FILE_FORMAT.
-fn header_text_row(k: &[u8]) -> Option<Row>
-    ensures { found_for_line (behind_eight (find k.now header_texts)) ≡ found_of result }
-{
-    if is_cad(k) {
-        return Some(free_text(8, CAD, 16));
-    }
-    if is_os(k) {
-        return Some(free_text(9, OS, 18));
-    }
-    if is_hard(k) {
-        return Some(free_text(10, HARD, 20));
-    }
-    if is_ver(k) {
-        return Some(free_text(11, VER, 22));
-    }
-    if is_corp(k) {
-        return Some(may_be_empty(free_text(12, CORP, 24)));
-    }
-    if is_make(k) {
-        return Some(may_be_empty(free_text(13, MAKE, 26)));
-    }
-    if is_tel(k) {
-        return Some(may_be_empty(free_text(14, TEL, 28)));
-    }
-    if is_name(k) {
-        return Some(may_be_empty(free_text(15, NAME, 30)));
-    }
-    None
-}
+pub(crate) static TOP_ROWS: [Entry; 4] = [
+    row!(0, FILE_FORMAT, kind: HOLDS_BLOCK, times: TIMES_ANY),
+    row!(1, DRAWING_FORMAT, kind: HOLDS_BLOCK, times: TIMES_ANY),
+    row!(2, SYMBOL_DEFINE, kind: HOLDS_BLOCK, times: TIMES_ANY),
+    row!(3, ELEMENT_BLOCK, kind: HOLDS_BLOCK, times: TIMES_ANY),
+];
 
 // FILE_FORMAT of the first volume: its record and the volume's behind it.
-pub(crate) fn file_row(k: &[u8]) -> Option<Row>
-    ensures { found_for_line (find k.now file_table) ≡ found_of result }
-{
-    if is_range(k) {
-        return Some(inner(0, HOLDS_BLOCK, 0, 1, 0));
-    }
-    if is_all_line(k) {
-        return Some(several(1, PART_COUNT, 0, 0, 12));
-    }
-    if is_this_line(k) {
-        return Some(several(2, PART_COUNT, 0, 0, 37));
-    }
-    if is_all_ele(k) {
-        return Some(several(3, PART_COUNT, 0, 0, 13));
-    }
-    if is_this_ele(k) {
-        return Some(several(4, PART_COUNT, 0, 0, 38));
-    }
-    if is_next_file(k) {
-        return Some(may_be_empty(plain(5, HOLDS_VOLUME_NAME, 0)));
-    }
-    if is_date(k) {
-        return Some(several(6, PART_DAY, 0, 0, 14));
-    }
-    if is_time(k) {
-        return Some(several(7, PART_CLOCK, 0, 0, 15));
-    }
-    header_text_row(k)
-}
+pub(crate) static FILE_ROWS: [Entry; 16] = [
+    row!(0, RANGE, kind: HOLDS_BLOCK, inner: 1),
+    row!(1, ALL_LINE, parts: PART_COUNT, place: 12),
+    row!(2, THIS_LINE, parts: PART_COUNT, place: 37),
+    row!(3, ALL_ELE, parts: PART_COUNT, place: 13),
+    row!(4, THIS_ELE, parts: PART_COUNT, place: 38),
+    row!(5, NEXT_FILE, kind: HOLDS_VOLUME_NAME, may: true),
+    row!(6, DATE, parts: PART_DAY, place: 14),
+    row!(7, TIME, parts: PART_CLOCK, place: 15),
+    row!(8, CAD, kind: HOLDS_TEXT, most: TEXT_LIMITS[0], set: ASCII, place: 16),
+    row!(9, OS, kind: HOLDS_TEXT, most: TEXT_LIMITS[1], set: ASCII, place: 18),
+    row!(10, HARD, kind: HOLDS_TEXT, most: TEXT_LIMITS[2], set: ASCII, place: 20),
+    row!(11, VER, kind: HOLDS_TEXT, most: TEXT_LIMITS[3], set: ASCII, place: 22),
+    row!(12, CORP, kind: HOLDS_TEXT, most: TEXT_LIMITS[4], set: ANY_BYTES, place: 24, may: true),
+    row!(13, MAKE, kind: HOLDS_TEXT, most: TEXT_LIMITS[5], set: ANY_BYTES, place: 26, may: true),
+    row!(14, TEL, kind: HOLDS_TEXT, most: TEXT_LIMITS[6], set: TELEPHONE, place: 28, may: true),
+    row!(15, NAME, kind: HOLDS_TEXT, most: TEXT_LIMITS[7], set: ANY_BYTES, place: 30, may: true),
+];
 
 // `range`.
-pub(crate) fn range_row(k: &[u8]) -> Option<Row>
-    ensures { found_for_line (find k.now range_table) ≡ found_of result }
-{
-    if is_base(k) {
-        return Some(inner(0, HOLDS_HEADED, PART_RANGE_1, 2, 0));
-    }
-    if is_arc(k) {
-        return Some(several(1, PART_RANGE_0_1, 0, 0, 6));
-    }
-    if is_elec(k) {
-        return Some(inner(2, HOLDS_EITHER, 0, 3, 7));
-    }
-    if is_air(k) {
-        return Some(several(3, PART_RANGE_0, 0, 0, 0));
-    }
-    if is_pipe(k) {
-        return Some(several(4, PART_RANGE_0, 0, 0, 0));
-    }
-    if is_sym(k) {
-        return Some(inner(5, HOLDS_EITHER, 0, 4, 9));
-    }
-    None
-}
+pub(crate) static RANGE_ROWS: [Entry; 6] = [
+    row!(0, BASE, kind: HOLDS_HEADED, parts: PART_RANGE_1, inner: 2),
+    row!(1, ARC, parts: PART_RANGE_0_1, place: 6),
+    row!(2, ELEC, kind: HOLDS_EITHER, inner: 3, place: 7),
+    row!(3, AIR, parts: PART_RANGE_0),
+    row!(4, PIPE, parts: PART_RANGE_0),
+    row!(5, SYM, kind: HOLDS_EITHER, inner: 4, place: 9),
+];
 
 // `base=001:{`.
-pub(crate) fn base_row(k: &[u8]) -> Option<Row>
-    ensures { found_for_line (find k.now base_table) ≡ found_of result }
-{
-    if is_b_sym(k) {
-        return Some(several(0, PART_RANGE_0_1, 0, 0, 5));
-    }
-    None
-}
+pub(crate) static BASE_ROWS: [Entry; 1] = [row!(0, B_SYM, parts: PART_RANGE_0_1, place: 5)];
 
 // `elec=001:{`.
-pub(crate) fn elec_row(k: &[u8]) -> Option<Row>
-    ensures { found_for_line (find k.now elec_table) ≡ found_of result }
-{
-    if is_e_sym(k) {
-        return Some(several(0, PART_SYMBOL_RANGE, 0, 0, 8));
-    }
-    if is_e_wire(k) {
-        return Some(several(1, PART_WIRE_RANGE, 0, 0, 0));
-    }
-    if is_e_cirno(k) {
-        return Some(several(2, PART_RANGE_0, 0, 0, 0));
-    }
-    None
-}
+pub(crate) static ELEC_ROWS: [Entry; 3] = [
+    row!(0, E_SYM, parts: PART_SYMBOL_RANGE, place: 8),
+    row!(1, E_WIRE, parts: PART_WIRE_RANGE),
+    row!(2, E_CIRNO, parts: PART_RANGE_0),
+];
 
 // `sym=001:{`.
-pub(crate) fn sym_row(k: &[u8]) -> Option<Row>
-    ensures { found_for_line (find k.now sym_table) ≡ found_of result }
-{
-    if is_s_base(k) {
-        return Some(several(0, PART_RANGE_0_1, 0, 0, 10));
-    }
-    if is_s_elec(k) {
-        return Some(several(1, PART_RANGE_0_2, 0, 0, 11));
-    }
-    None
-}
+pub(crate) static SYM_ROWS: [Entry; 2] = [
+    row!(0, S_BASE, parts: PART_RANGE_0_1, place: 10),
+    row!(1, S_ELEC, parts: PART_RANGE_0_2, place: 11),
+];
 
 // FILE_FORMAT of later volumes.
-pub(crate) fn later_row(k: &[u8]) -> Option<Row>
-    ensures { found_for_line (find k.now later_table) ≡ found_of result }
-{
-    if is_this_line(k) {
-        return Some(several(0, PART_COUNT, 0, 0, 5));
-    }
-    if is_this_ele(k) {
-        return Some(several(1, PART_COUNT, 0, 0, 6));
-    }
-    if is_next_file(k) {
-        return Some(may_be_empty(plain(2, HOLDS_VOLUME_NAME, 0)));
-    }
-    if is_date(k) {
-        return Some(several(3, PART_DAY, 0, 0, 0));
-    }
-    if is_time(k) {
-        return Some(several(4, PART_CLOCK, 0, 0, 0));
-    }
-    None
-}
+pub(crate) static LATER_ROWS: [Entry; 5] = [
+    row!(0, THIS_LINE, parts: PART_COUNT, place: 5),
+    row!(1, THIS_ELE, parts: PART_COUNT, place: 6),
+    row!(2, NEXT_FILE, kind: HOLDS_VOLUME_NAME, may: true),
+    row!(3, DATE, parts: PART_DAY),
+    row!(4, TIME, parts: PART_CLOCK),
+];
 
 // DRAWING_FORMAT; its range is arc.
-pub(crate) fn drawing_row(k: &[u8]) -> Option<Row>
-    ensures { found_for_line (find k.now drawing_table) ≡ found_of result }
-{
-    if is_size(k) {
-        return Some(plain(0, HOLDS_SHEET, 5));
-    }
-    if is_scale(k) {
-        return Some(plain(1, HOLDS_RATIO, 7));
-    }
-    if is_project(k) {
-        return Some(free_text(2, PROJECT, 12));
-    }
-    if is_drawname(k) {
-        return Some(free_text(3, DRAWNAME, 14));
-    }
-    if is_date(k) {
-        return Some(several(4, PART_DAY, 0, 0, 9));
-    }
-    if is_drawer(k) {
-        return Some(may_be_empty(free_text(5, DRAWER, 16)));
-    }
-    if is_floor_height(k) {
-        return Some(with_state(
-            from(may_be_empty(several(6, PART_NOT_NEGATIVE, 0, 0, 11)), 0, 1),
-            10,
-        ));
-    }
-    if is_layer_name(k) {
-        return Some(inner(7, HOLDS_BLOCK, 0, 1, 0));
-    }
-    None
-}
+pub(crate) static DRAWING_ROWS: [Entry; 8] = [
+    row!(0, SIZE, kind: HOLDS_SHEET, place: 5),
+    row!(1, SCALE, kind: HOLDS_RATIO, place: 7),
+    row!(2, PROJECT, kind: HOLDS_TEXT, most: TEXT_LIMITS[8], set: ANY_BYTES, place: 12),
+    row!(3, DRAWNAME, kind: HOLDS_TEXT, most: TEXT_LIMITS[9], set: ANY_BYTES, place: 14),
+    row!(4, DATE, parts: PART_DAY, place: 9),
+    row!(5, DRAWER, kind: HOLDS_TEXT, most: TEXT_LIMITS[10], set: ANY_BYTES, place: 16, may: true),
+    row!(6, FLOOR_HEIGHT, parts: PART_NOT_NEGATIVE, place: 11, may: true, least: Digits { middle: 0, last: 1 }, state: 10),
+    row!(7, LAYER_NAME, kind: HOLDS_BLOCK, inner: 1),
+];
 
 // SYMBOL_DEFINE; its range is S_elec.
-pub(crate) fn defines_row(k: &[u8]) -> Option<Row>
-    ensures { found_for_line (find k.now defines_table) ≡ found_of result }
-{
-    if is_non(k) {
-        return Some(plain(0, HOLDS_NOTHING, 0));
-    }
-    if is_e_symbol(k) {
-        return Some(from(times(inner(1, HOLDS_BLOCK, 0, 1, 0), TIMES_ANY), 0, 1));
-    }
-    None
-}
+pub(crate) static DEFINES_ROWS: [Entry; 2] = [
+    row!(0, NON, kind: HOLDS_NOTHING),
+    row!(1, E_SYMBOL, kind: HOLDS_BLOCK, inner: 1, times: TIMES_ANY, least: Digits { middle: 0, last: 1 }),
+];
 
 // E_symbol in SYMBOL_DEFINE; its range is S_elec.
-pub(crate) fn symbol_row(k: &[u8]) -> Option<Row>
-    ensures { found_for_line (find k.now symbol_table) ≡ found_of result }
-{
-    if is_name(k) {
-        return Some(text(0, HOLDS_WORD, 32, LETTERS_AND_DIGITS, 5));
-    }
-    if is_element(k) {
-        return Some(inner(1, HOLDS_BLOCK, 0, 1, 0));
-    }
-    if is_hide(k) {
-        return Some(inner(2, HOLDS_BLOCK, 0, 2, 0));
-    }
-    if is_wall(k) {
-        return Some(with_state(from(may_be_empty(several(3, WALL_FORMS, 1, 0, 8)), 0, 2), 7));
-    }
-    None
-}
+pub(crate) static SYMBOL_ROWS: [Entry; 4] = [
+    row!(0, NAME, kind: HOLDS_WORD, most: 32, set: LETTERS_AND_DIGITS, place: 5),
+    row!(1, ELEMENT, kind: HOLDS_BLOCK, inner: 1),
+    row!(2, HIDE, kind: HOLDS_BLOCK, inner: 2),
+    row!(3, WALL, parts: WALL_FORMS, count: 1, place: 8, may: true, least: Digits { middle: 0, last: 2 }, state: 7),
+];
 
 // ELEMENT.
-pub(crate) fn element_row(k: &[u8]) -> Option<Row>
-    ensures { found_for_line (find k.now element_table) ≡ found_of result }
-{
-    if is_layer(k) {
-        return Some(times(inner(0, HOLDS_HEADED, PART_LAYER_ID, 1, 0), TIMES_ANY));
-    }
-    None
-}
+pub(crate) static ELEMENT_ROWS: [Entry; 1] = [
+    row!(0, LAYER, kind: HOLDS_HEADED, parts: PART_LAYER_ID, inner: 1, times: TIMES_ANY),
+];
 
 // A placed symbol's block; its range is E_sym.
-pub(crate) fn placed_row(k: &[u8]) -> Option<Row>
-    ensures { found_for_line (find k.now placed_table) ≡ found_of result }
-{
-    if is_symbol(k) {
-        return Some(several(0, SYMBOL_FORMS, 4, 0, 5));
-    }
-    if is_text(k) {
-        return Some(with_state(from(inner(1, HOLDS_BLOCK, 0, 1, 0), 0, 2), 26));
-    }
-    if is_hight(k) {
-        return Some(with_state(
-            from(may_be_empty(several(2, PART_ANY_SIGN, 0, 0, 10)), 0, 3),
-            27,
-        ));
-    }
-    if is_pos(k) {
-        return Some(with_state(
-            from(may_be_empty(several(3, PART_POSITION, 0, 0, 11)), 0, 4),
-            28,
-        ));
-    }
-    if is_circuit(k) {
-        return Some(with_state(
-            from(
-                may_be_empty(text(4, HOLDS_WORD, 10, CIRCUIT_BYTES, 12)),
-                0,
-                5,
-            ),
-            29,
-        ));
-    }
-    if is_serial(k) {
-        return Some(with_state(from(plain(5, HOLDS_SERIALS, 14), 1, 0), 30));
-    }
-    None
-}
+pub(crate) static PLACED_ROWS: [Entry; 6] = [
+    row!(0, SYMBOL, parts: SYMBOL_FORMS, count: 4, place: 5),
+    row!(1, TEXT, kind: HOLDS_BLOCK, inner: 1, least: Digits { middle: 0, last: 2 }, state: 26),
+    row!(2, HIGHT, parts: PART_ANY_SIGN, place: 10, may: true, least: Digits { middle: 0, last: 3 }, state: 27),
+    row!(3, POS, parts: PART_POSITION, place: 11, may: true, least: Digits { middle: 0, last: 4 }, state: 28),
+    row!(4, CIRCUIT, kind: HOLDS_WORD, most: 10, set: CIRCUIT_BYTES, place: 12, may: true, least: Digits { middle: 0, last: 5 }, state: 29),
+    row!(5, SERIAL, kind: HOLDS_SERIALS, place: 14, least: Digits { middle: 1, last: 0 }, state: 30),
+];
 
 // A wire's block; its range is the last two digits of E_wire.
-pub(crate) fn wire_row(k: &[u8]) -> Option<Row>
-    ensures { found_for_line (find k.now wire_table) ≡ found_of result }
-{
-    if is_line(k) {
-        return Some(times(several(0, LINE_FORMS, 4, ACROSS_ENDS, 4), TIMES_ANY));
-    }
-    if is_circle(k) {
-        return Some(times(several(1, CIRCLE_FORMS, 6, ACROSS_ARC, 4), TIMES_ANY));
-    }
-    if is_direc(k) {
-        return Some(with_state(from(times(several(2, DIREC_FORMS, 3, 0, 0), 2), 0, 2), 26));
-    }
-    if is_piend(k) {
-        return Some(with_state(
-            from(times(several(3, PIEND_FORMS, 2, 0, 0), TIMES_ANY), 0, 3),
-            27,
-        ));
-    }
-    if is_num(k) {
-        return Some(with_state(
-            from(times(several(4, NUM_FORMS, 4, 0, 0), TIMES_ANY), 0, 4),
-            28,
-        ));
-    }
-    if is_text(k) {
-        return Some(with_state(
-            from(times(inner(5, HOLDS_BLOCK, 0, 1, 0), TIMES_ANY), 0, 5),
-            58,
-        ));
-    }
-    if is_length(k) {
-        return Some(with_state(
-            from(may_be_empty(several(6, PART_NOT_NEGATIVE, 0, 0, 25)), 0, 6),
-            29,
-        ));
-    }
-    if is_circuit(k) {
-        return Some(with_state(
-            from(
-                may_be_empty(text(7, HOLDS_WORD, 10, CIRCUIT_BYTES, 48)),
-                0,
-                7,
-            ),
-            59,
-        ));
-    }
-    if is_power(k) {
-        return Some(with_state(
-            from(
-                may_be_empty(several(8, POWER_FORMS, 2, ACROSS_POWER, 50)),
-                0,
-                8,
-            ),
-            60,
-        ));
-    }
-    if is_serial(k) {
-        return Some(with_state(from(plain(9, HOLDS_WIRE_SERIAL, 53), 1, 0), 61));
-    }
-    None
-}
+pub(crate) static WIRE_ROWS: [Entry; 10] = [
+    row!(0, LINE, parts: LINE_FORMS, count: 4, across: ACROSS_ENDS, place: 4, times: TIMES_ANY),
+    row!(1, CIRCLE, parts: CIRCLE_FORMS, count: 6, across: ACROSS_ARC, place: 4, times: TIMES_ANY),
+    row!(2, DIREC, parts: DIREC_FORMS, count: 3, times: 2, least: Digits { middle: 0, last: 2 }, state: 26),
+    row!(3, PIEND, parts: PIEND_FORMS, count: 2, times: TIMES_ANY, least: Digits { middle: 0, last: 3 }, state: 27),
+    row!(4, NUM, parts: NUM_FORMS, count: 4, times: TIMES_ANY, least: Digits { middle: 0, last: 4 }, state: 28),
+    row!(5, TEXT, kind: HOLDS_BLOCK, inner: 1, times: TIMES_ANY, least: Digits { middle: 0, last: 5 }, state: 58),
+    row!(6, LENGTH, parts: PART_NOT_NEGATIVE, place: 25, may: true, least: Digits { middle: 0, last: 6 }, state: 29),
+    row!(7, CIRCUIT, kind: HOLDS_WORD, most: 10, set: CIRCUIT_BYTES, place: 48, may: true, least: Digits { middle: 0, last: 7 }, state: 59),
+    row!(8, POWER, parts: POWER_FORMS, count: 2, across: ACROSS_POWER, place: 50, may: true, least: Digits { middle: 0, last: 8 }, state: 60),
+    row!(9, SERIAL, kind: HOLDS_WIRE_SERIAL, place: 53, least: Digits { middle: 1, last: 0 }, state: 61),
+];

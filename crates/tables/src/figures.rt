@@ -1,30 +1,22 @@
-// The tables of figures, points and texts: the row of a key.
-ghost use Rattle.std.specs.Prelude.{◌≡◌, cond};
-ghost use Rattle.rules.specs.Rows.{find};
-ghost use Rattle.rules.specs.Figures.{point_table, text_table, wire_rows, any_of};
-ghost use Rattle.tables.specs.Rows.{circle_in, found_of, found_for_line};
-ghost use Rattle.tables.specs.Tables.{placed_rows, figures_table, behind_six, behind_seven};
-
+// The tables of figures, points and texts, whose rows go by where they stand: in a layer or in a symbol. Each row with its key.
 use crate::keys::{
-    is_character, is_circle, is_e_symbol, is_e_wire, is_ellipse, is_line, is_point, is_successive,
-    is_text, is_type,
+    CHARACTER, CIRCLE, E_SYMBOL, E_WIRE, ELLIPSE, LINE, POINT, SUCCESSIVE, TEXT, TYPE,
 };
-use crate::rows::{free_text, from, inner, plain, several, times};
+use crate::rows::{Entry, row};
 use crate::{
-    ACROSS_ARC, ACROSS_AXES, ACROSS_ENDS, ARC_FORMS, HOLDS_BLOCK, HOLDS_CIRCLE, Row, TIMES_ANY,
+    ACROSS_ARC, ACROSS_AXES, ACROSS_ENDS, ARC_FORMS, HOLDS_BLOCK, HOLDS_CIRCLE, HOLDS_TEXT,
+    TIMES_ANY,
 };
+use rules::{Digits, TEXT_LIMITS};
 
 const MOST_POINTS: u8 = 100;
 
-// by its number in TEXT_LIMITS
-const CHARACTER: u8 = 11;
-
-// several forms, two digits each, the first one last: type,x,y and the like
+// several forms, two digits each, the first one last: type,x,y and the like; in layers no coordinate is negative, in symbols any sign stands
 const LINE_IN_LAYER: u64 = 21_21_21_21_17;
 
 const LINE_IN_SYMBOL: u64 = 20_20_20_20_17;
 
-const ELLIPSE: u64 = 5_23_23_23_22_22_20_20_17;
+const ELLIPSE_FORMS: u64 = 5_23_23_23_22_22_20_20_17;
 
 const POINT_IN_LAYER: u64 = 21_21_17;
 
@@ -36,132 +28,83 @@ const LETTERING_IN_SYMBOL: u64 = 5_23_21_22_22_20_20_17;
 
 const PLACING: u64 = 22_23_21_21_15;
 
-// In layers no coordinate is negative, in symbols any sign stands: the one's forms or the other's.
-fn by_home(in_layer: bool, layers: u64, symbols: u64) -> u64
-    ensures { result ≡ cond in_layer layers symbols }
-{
-    if in_layer {
-        return layers;
-    }
-    symbols
-}
+// a set of bytes
+const ANY_BYTES: u8 = 0;
 
-// A circle: in a layer an arc's values, in a symbol those or a whole circle's.
-fn circle_in(in_layer: bool) -> Row
-    ensures { result ≡ circle_in in_layer }
-{
-    if in_layer {
-        return several(1, ARC_FORMS, 6, ACROSS_ARC, 4);
-    }
-    plain(1, HOLDS_CIRCLE, 4)
-}
+// The rows that stand in several tables. A circle has in a layer an arc's values, in a symbol those or a whole circle's.
+const LAYER_LINE: Entry =
+    row!(0, LINE, parts: LINE_IN_LAYER, count: 4, across: ACROSS_ENDS, place: 4, times: TIMES_ANY);
 
-// A wire among the figures of a layer, where it may stand there.
-fn wiring_row(k: &[u8], wired: bool) -> Option<Row>
-    ensures { found_for_line (behind_seven (find k.now (any_of (wire_rows wired)))) ≡ found_of result }
-{
-    if !wired {
-        return None;
-    }
-    if is_e_wire(k) {
-        return Some(times(inner(7, HOLDS_BLOCK, 0, 4, 0), TIMES_ANY));
-    }
-    None
-}
+const LAYER_CIRCLE: Entry =
+    row!(1, CIRCLE, parts: ARC_FORMS, count: 6, across: ACROSS_ARC, place: 4, times: TIMES_ANY);
 
-// A placed symbol among the figures of a layer: none (0), its block (1), or on one line (2); and behind it a wire.
-fn placing_row(k: &[u8], placed: u8, wired: bool) -> Option<Row>
-    ensures { found_for_line (behind_six (find k.now (any_of (placed_rows placed wired)))) ≡ found_of result }
-{
-    if placed == 0 {
-        return None;
-    }
-    if !is_e_symbol(k) {
-        return wiring_row(k, wired);
-    }
-    if placed == 1 {
-        return Some(from(times(inner(6, HOLDS_BLOCK, 0, 3, 5), TIMES_ANY), 0, 1));
-    }
-    Some(from(times(several(6, PLACING, 4, 0, 5), TIMES_ANY), 0, 1))
-}
+const ANY_ELLIPSE: Entry =
+    row!(2, ELLIPSE, parts: ELLIPSE_FORMS, count: 8, across: ACROSS_AXES, place: 4, times: TIMES_ANY);
 
-// The figures of a layer or of a symbol's `element`, and what else may stand among them.
-pub(crate) fn figure_row(k: &[u8], in_layer: bool, placed: u8, wired: bool) -> Option<Row>
-    ensures { found_for_line (find k.now (figures_table in_layer placed wired)) ≡ found_of result }
-{
-    if is_line(k) {
-        return Some(times(
-            several(
-                0,
-                by_home(in_layer, LINE_IN_LAYER, LINE_IN_SYMBOL),
-                4,
-                ACROSS_ENDS,
-                4,
-            ),
-            TIMES_ANY,
-        ));
-    }
-    if is_circle(k) {
-        return Some(times(circle_in(in_layer), TIMES_ANY));
-    }
-    if is_ellipse(k) {
-        return Some(times(several(2, ELLIPSE, 8, ACROSS_AXES, 4), TIMES_ANY));
-    }
-    if is_point(k) {
-        return Some(times(
-            several(
-                3,
-                by_home(in_layer, POINT_IN_LAYER, POINT_IN_SYMBOL),
-                2,
-                0,
-                4,
-            ),
-            TIMES_ANY,
-        ));
-    }
-    if is_successive(k) {
-        return Some(times(inner(4, HOLDS_BLOCK, 0, 1, 0), TIMES_ANY));
-    }
-    if is_text(k) {
-        return Some(times(inner(5, HOLDS_BLOCK, 0, 2, 0), TIMES_ANY));
-    }
-    placing_row(k, placed, wired)
-}
+const LAYER_POINT: Entry =
+    row!(3, POINT, parts: POINT_IN_LAYER, count: 2, place: 4, times: TIMES_ANY);
+
+const ANY_SUCCESSIVE: Entry = row!(4, SUCCESSIVE, kind: HOLDS_BLOCK, inner: 1, times: TIMES_ANY);
+
+const ANY_TEXT: Entry = row!(5, TEXT, kind: HOLDS_BLOCK, inner: 2, times: TIMES_ANY);
+
+const LAYER_WIRE: Entry = row!(7, E_WIRE, kind: HOLDS_BLOCK, inner: 4, times: TIMES_ANY);
+
+// The figures of a layer, and a placed symbol's block and a wire among them.
+pub(crate) static LAYER_ROWS: [Entry; 8] = [
+    LAYER_LINE,
+    LAYER_CIRCLE,
+    ANY_ELLIPSE,
+    LAYER_POINT,
+    ANY_SUCCESSIVE,
+    ANY_TEXT,
+    row!(6, E_SYMBOL, kind: HOLDS_BLOCK, inner: 3, place: 5, times: TIMES_ANY, least: Digits { middle: 0, last: 1 }),
+    LAYER_WIRE,
+];
+
+// The same with placed symbols on one line.
+pub(crate) static SINGLE_LAYER_ROWS: [Entry; 8] = [
+    LAYER_LINE,
+    LAYER_CIRCLE,
+    ANY_ELLIPSE,
+    LAYER_POINT,
+    ANY_SUCCESSIVE,
+    ANY_TEXT,
+    row!(6, E_SYMBOL, parts: PLACING, count: 4, place: 5, times: TIMES_ANY, least: Digits { middle: 0, last: 1 }),
+    LAYER_WIRE,
+];
+
+// The figures of a symbol's `element`.
+pub(crate) static FIGURE_ROWS: [Entry; 6] = [
+    row!(0, LINE, parts: LINE_IN_SYMBOL, count: 4, across: ACROSS_ENDS, place: 4, times: TIMES_ANY),
+    row!(1, CIRCLE, kind: HOLDS_CIRCLE, place: 4, times: TIMES_ANY),
+    ANY_ELLIPSE,
+    row!(3, POINT, parts: POINT_IN_SYMBOL, count: 2, place: 4, times: TIMES_ANY),
+    ANY_SUCCESSIVE,
+    ANY_TEXT,
+];
 
 // `successive` or `hide`.
-pub(crate) fn point_row(k: &[u8], in_layer: bool) -> Option<Row>
-    ensures { found_for_line (find k.now (point_table in_layer)) ≡ found_of result }
-{
-    if is_point(k) {
-        return Some(times(
-            several(
-                0,
-                by_home(in_layer, POINT_IN_LAYER, POINT_IN_SYMBOL),
-                2,
-                0,
-                4,
-            ),
-            MOST_POINTS,
-        ));
-    }
-    None
-}
+pub(crate) static LAYER_POINT_ROWS: [Entry; 1] = [
+    row!(0, POINT, parts: POINT_IN_LAYER, count: 2, place: 4, times: MOST_POINTS),
+];
+
+pub(crate) static SYMBOL_POINT_ROWS: [Entry; 1] = [
+    row!(0, POINT, parts: POINT_IN_SYMBOL, count: 2, place: 4, times: MOST_POINTS),
+];
 
 // `text`, whose two lines go to these places of the record.
-pub(crate) fn lettering_row(k: &[u8], in_layer: bool, first: u8, behind: u8) -> Option<Row>
-    ensures { found_for_line (find k.now (text_table in_layer first behind)) ≡ found_of result }
-{
-    if is_type(k) {
-        return Some(several(
-            0,
-            by_home(in_layer, LETTERING_IN_LAYER, LETTERING_IN_SYMBOL),
-            7,
-            0,
-            first,
-        ));
-    }
-    if is_character(k) {
-        return Some(free_text(1, CHARACTER, behind));
-    }
-    None
-}
+pub(crate) static LAYER_TEXT_ROWS: [Entry; 2] = [
+    row!(0, TYPE, parts: LETTERING_IN_LAYER, count: 7, place: 4),
+    row!(1, CHARACTER, kind: HOLDS_TEXT, most: TEXT_LIMITS[11], set: ANY_BYTES, place: 12),
+];
+
+pub(crate) static SYMBOL_TEXT_ROWS: [Entry; 2] = [
+    row!(0, TYPE, parts: LETTERING_IN_SYMBOL, count: 7, place: 4),
+    row!(1, CHARACTER, kind: HOLDS_TEXT, most: TEXT_LIMITS[11], set: ANY_BYTES, place: 12),
+];
+
+pub(crate) static PLACED_TEXT_ROWS: [Entry; 2] = [
+    row!(0, TYPE, parts: LETTERING_IN_LAYER, count: 7, place: 16),
+    row!(1, CHARACTER, kind: HOLDS_TEXT, most: TEXT_LIMITS[11], set: ANY_BYTES, place: 24),
+];
