@@ -11,11 +11,11 @@ use Rattle.rules.specs.Base.{is_nil, among, has_number}
 use Rattle.rules.specs.RefusalNumbers.{Got, got, bad, unless, also}
 use Rattle.rules.specs.Lines.{Rest, Form, ignored, wrong, close, eof, keyed, free_shape_of}
 use Rattle.rules.specs.RangeClass.{digits, digits_of, reaches, exceeds, both, knows_wires, skip_of, most_depth}
-use Rattle.rules.specs.Values.{Num, amount_at, nums_of, is_layer_id}
+use Rattle.rules.specs.Values.{Num, amount_at, is_layer_id}
 use Rattle.rules.specs.Rows.{Found, absent, found, find, Slots, Held, part_of, rows_there, rows_at_limit, Act, act_row, act_unknown, act}
 use Rattle.rules.specs.Blocks.{top_table, file_tables, drawing_table, most_layers, defines_table, symbol_table, element_table}
-use Rattle.rules.specs.Figures.{least_points, point_table, text_table, placed_table, placed_tables, wire_table}
-use Rattle.rules.specs.Sets.{Point, Wire, Figure, Drawing, Symbol, Set, nothing_yet, with_records, symbol_own, is_first, arc_of, range_of, define_range, join_digit, wires_of, known_of, used_in}
+use Rattle.rules.specs.Figures.{least_points, point_table, text_table, placed_table, placed_tables}
+use Rattle.rules.specs.Sets.{Point, Wire, Figure, Drawing, Symbol, Set, nothing_yet, with_records, symbol_own, is_first, arc_of, range_of, define_range, join_digit, known_of, used_in}
 use Rattle.rules.specs.VolumesAndTotals.{chained, dated, counted_here, counted_all, layers_used, partners_exist}
 use Rattle.rules.specs.Machine.{Line, Env, Home, in_element, in_layer, State, top, file, drawing, layer_names, defines, symbol, hide, elements, figures, successive, texts, placing, skipping, ended, room_for, open_top, on_top, on_file, on_drawing, layer_value, on_layer_names, new_name, open_symbol, on_symbol, on_defines, on_hide, on_elements, is_layer, home_table, close_figures, open_placed, begin_wire, open_wire, open_figure, on_figures, on_successive, on_texts, tests_partners}
 use Rattle.rules.specs.PlacedSymbol.{on_unknown, new_serial, on_placed, on_placed_key, on_placing, skip_ended, unread_shut, skip_shut, on_skipping}

@@ -3,11 +3,7 @@ use lib.ListN.{replicate}
 use mathlib.Core.Path.{refl}
 use native.Mathlib.Omega.{arith}
 use Rattle.sets.proofs.SetRunUnlimited.{judged}
-use borrow.Author.Rules.{rules}
 use Rattle.sets.proofs.reader.judge.Goals as goal
-
-pub slice_bounds-read_set-end : goal.slice_bounds-read_set-end
-slice_bounds-read_set-end c = search rules
 
 pub read_set-requires : goal.read_set-requires
 read_set-requires c = (refl, omega arith)

@@ -1,25 +1,14 @@
-use Prim.Native.Nat.{◌-◌}
 use mathlib.Core.Path.{refl, sym, ◌∙◌}
 use native.Mathlib.Omega.{arith}
 use lib.ListN.{length}
 use borrow.Author.Rules.{rules}
-use Rattle.lines.specs.VolumePlaces.{layout}
 use Rattle.standing.specs.Reading.{volume_desk}
 use Rattle.sets.proofs.SetRunVolumes.{unsound-few}
-use Rattle.sets.proofs.SetRun.{Came, came-none, came_unsound, came-first, count-few, tally-long, volume_ready, stops, goes, accepts, counts-records, lays-records, few-records}
+use Rattle.sets.proofs.SetRun.{came-none, came_unsound, came-first, count-few, tally-long, volume_ready, stops, goes, accepts, counts-records, lays-records, few-records}
 use Rattle.sets.proofs.reader.read_set.Goals as goal
-
-pub volumes-l-requires : goal.volumes-l-requires
-volumes-l-requires c = search rules
-
-pub overflow_cast-count : goal.overflow_cast-count
-overflow_cast-count c = search rules
 
 pub returns-then-count-eq0 : goal.returns-then-count-eq0
 returns-then-count-eq0 c = came-none c.args.class c.args.s.now c.args.limit (length c.args.t.now) c.volumes-l.result c.volumes-l.ensures c.if-count-eq0.true
-
-pub first_unsound-unsound-requires : goal.first_unsound-unsound-requires
-first_unsound-unsound-requires c = search rules
 
 pub overflow_cast-result : goal.overflow_cast-result
 overflow_cast-result c = omega (arith, unsound-few c.args.s.now c.volumes-l.result c.first_unsound-unsound.result c.first_unsound-unsound.ensures)
@@ -27,29 +16,17 @@ overflow_cast-result c = omega (arith, unsound-few c.args.s.now c.volumes-l.resu
 pub returns-then-unsound-ne0 : goal.returns-then-unsound-ne0
 returns-then-unsound-ne0 c = came_unsound c.args.class c.args.s.now c.args.limit (length c.args.t.now) c.volumes-l.result c.volumes-l.ensures c.if-count-eq0.false c.first_unsound-unsound.result c.first_unsound-unsound.ensures c.if-unsound-ne0.true
 
-pub nothing_yet-here-requires : goal.nothing_yet-here-requires
-nothing_yet-here-requires c = search rules
-
 pub loop-i-init : goal.loop-i-init
 loop-i-init c = came-first c.args.class c.args.s.now c.args.limit (length c.args.t.now) c.volumes-l.result c.volumes-l.ensures c.if-count-eq0.false (sym c.first_unsound-unsound.ensures ∙ c.if-unsound-ne0.false) c.nothing_yet-here.result c.nothing_yet-here.ensures c.args.t.now refl c.requires.0
 
 pub name_behind-following-requires : goal.name_behind-following-requires
 name_behind-following-requires c = (count-few c.args.class c.args.s.now c.args.limit (length c.args.t.now) c.volumes-l.result c.loop-i.i (volume_desk c.loop-i.here c.loop-i.tally c.loop-i.symbols c.loop-i.layers c.loop-i.serials c.loop-i.used_all) c.loop-i.t c.loop-i.invariant, c.loop-i-test.true)
 
-pub offset_bounds-places-i : goal.offset_bounds-places-i
-offset_bounds-places-i c = search rules
-
 pub bounds-places-i : goal.bounds-places-i
 bounds-places-i c = omega (arith, count-few c.args.class c.args.s.now c.args.limit (length c.args.t.now) c.volumes-l.result c.loop-i.i (volume_desk c.loop-i.here c.loop-i.tally c.loop-i.symbols c.loop-i.layers c.loop-i.serials c.loop-i.used_all) c.loop-i.t c.loop-i.invariant, c.loop-i-test.true)
 
-pub offset_bounds-lengths-i : goal.offset_bounds-lengths-i
-offset_bounds-lengths-i c = search rules
-
 pub bounds-lengths-i : goal.bounds-lengths-i
 bounds-lengths-i c = omega (arith, count-few c.args.class c.args.s.now c.args.limit (length c.args.t.now) c.volumes-l.result c.loop-i.i (volume_desk c.loop-i.here c.loop-i.tally c.loop-i.symbols c.loop-i.layers c.loop-i.serials c.loop-i.used_all) c.loop-i.t c.loop-i.invariant, c.loop-i-test.true)
-
-pub part-body-requires : goal.part-body-requires
-part-body-requires c = search rules
 
 pub overflow_cast-v : goal.overflow_cast-v
 overflow_cast-v c = omega (arith, count-few c.args.class c.args.s.now c.args.limit (length c.args.t.now) c.volumes-l.result c.loop-i.i (volume_desk c.loop-i.here c.loop-i.tally c.loop-i.symbols c.loop-i.layers c.loop-i.serials c.loop-i.used_all) c.loop-i.t c.loop-i.invariant, c.loop-i-test.true)
@@ -60,26 +37,8 @@ overflow_add-v c = omega (arith, count-few c.args.class c.args.s.now c.args.limi
 pub slice_bounds-read_volume-end : goal.slice_bounds-read_volume-end
 slice_bounds-read_volume-end c = search (rules, tally-long c.args.class c.args.s.now c.args.limit (length c.args.t.now) c.volumes-l.result c.loop-i.i (volume_desk c.loop-i.here c.loop-i.tally c.loop-i.symbols c.loop-i.layers c.loop-i.serials c.loop-i.used_all) c.loop-i.t c.loop-i.invariant)
 
-pub slice_bounds-read_volume-end-in-loop-i : goal.slice_bounds-read_volume-end-in-loop-i
-slice_bounds-read_volume-end-in-loop-i c = search rules
-
-pub slice_bounds-read_volume-end-in-loop-i-2 : goal.slice_bounds-read_volume-end-in-loop-i-2
-slice_bounds-read_volume-end-in-loop-i-2 c = search rules
-
-pub slice_bounds-read_volume-end-in-loop-i-3 : goal.slice_bounds-read_volume-end-in-loop-i-3
-slice_bounds-read_volume-end-in-loop-i-3 c = search rules
-
-pub slice_bounds-read_volume-end-in-loop-i-4 : goal.slice_bounds-read_volume-end-in-loop-i-4
-slice_bounds-read_volume-end-in-loop-i-4 c = search rules
-
 pub read_volume-r-requires : goal.read_volume-r-requires
 read_volume-r-requires c = volume_ready c.args.class c.args.s.now c.args.limit (length c.args.t.now) c.volumes-l.result c.loop-i.i (volume_desk c.loop-i.here c.loop-i.tally c.loop-i.symbols c.loop-i.layers c.loop-i.serials c.loop-i.used_all) c.loop-i.t c.loop-i.invariant c.loop-i-test.true c.part-body.result.now c.part-body.ensures c.requires.1
-
-pub enum_known-r : goal.enum_known-r
-enum_known-r c = search rules
-
-pub enum_known-r-in-Err-1 : goal.enum_known-r-in-Err-1
-enum_known-r-in-Err-1 c = search rules
 
 pub shape_of-t-in-Err : goal.shape_of-t-in-Err
 shape_of-t-in-Err c = c.read_volume-r.auto.t ∙ c.loop-i.invariant.long
@@ -98,9 +57,6 @@ loop-i-preserved c = goes c.args.class c.args.s.now c.args.limit (length c.args.
 
 pub overflow_cast-result-2 : goal.overflow_cast-result-2
 overflow_cast-result-2 c = omega (arith, few-records c.args.class c.args.s.now c.args.limit (length c.args.t.now) c.volumes-l.result c.loop-i.i (volume_desk c.loop-i.here c.loop-i.tally c.loop-i.symbols c.loop-i.layers c.loop-i.serials c.loop-i.used_all) c.loop-i.t c.loop-i.invariant c.loop-i-test.false)
-
-pub shape_of-t : goal.shape_of-t
-shape_of-t c = search rules
 
 pub returns : goal.returns
 returns c = (c.loop-i.invariant.set, accepts c.args.class c.args.s.now c.args.limit (length c.args.t.now) c.volumes-l.result c.loop-i.i (volume_desk c.loop-i.here c.loop-i.tally c.loop-i.symbols c.loop-i.layers c.loop-i.serials c.loop-i.used_all) c.loop-i.t c.loop-i.invariant c.loop-i-test.false, counts-records c.args.class c.args.s.now c.args.limit (length c.args.t.now) c.volumes-l.result c.loop-i.i (volume_desk c.loop-i.here c.loop-i.tally c.loop-i.symbols c.loop-i.layers c.loop-i.serials c.loop-i.used_all) c.loop-i.t c.loop-i.invariant c.loop-i-test.false, lays-records c.args.class c.args.s.now c.args.limit (length c.args.t.now) c.volumes-l.result c.loop-i.i (volume_desk c.loop-i.here c.loop-i.tally c.loop-i.symbols c.loop-i.layers c.loop-i.serials c.loop-i.used_all) c.loop-i.t c.loop-i.invariant c.loop-i-test.false)
