@@ -1,170 +1,138 @@
 -- Texts one behind the other: each goes on where the one before it ended.
 use Rattle.std.specs.Prelude.{Result, Ok, Err}
+use Rattle.std.specs.Result.{IsErr}
 use Prim.Native.Nat.{ℕ, ◌+◌, ◌-◌, ◌<◌, ◌≤◌}
 use mathlib.Core.Path.{◌≡◌, refl, ap, sym, ◌∙◌}
 use mathlib.Core.Bool.{Bool, true, false, cond}
-use mathlib.Core.List.{List, ◌++◌, append-nil, append_assoc}
-use native.Mathlib.Nat.{zero-add}
+use mathlib.Core.List.{List, [], ◌++◌, append-nil, append_assoc}
 use native.Mathlib.Omega.{arith}
 use lib.Dec.{leb}
 use lib.ListN.{length, take, drop, length-drop, length-append, drop_of_length-le}
-use lib.Seq.{take_at, drop-append-add, drop-drop, length-take-le}
+use lib.Seq.{take_at, drop-append-add, drop-drop}
 use borrow.Author.Tests.{le-leb, lt-leb, leb-true, leb-false}
 use borrow.Rule.Slice.PartMut.{put_mid}
 use Rattle.leaves.specs.Writing.{Puts}
 use Rattle.leaves.proofs.Scan.{rest_all}
-use Rattle.prints.specs.Printing.{Prints, Within, go_on, Writes, shift}
+use Rattle.prints.specs.Printing.{Prints, Within, Lays}
 use Rattle.leaves.specs.declared.NoRoom.{NoRoom}
 use Rattle.leaves.specs.NoRoom.{no_room}
 
-full-bytes : {P : Type 0} {n : ℕ} → (Err no_room) ≡ Ok n → P
-full-bytes e = absurd (let z : ◌≡◌ {A = ℕ} 0 1 = cc in omega arith)
+-- ── what an answer tells ──
+-- there is one error
+pub is_full : (r : Result ℕ NoRoom) → IsErr r → r ≡ Err no_room
+is_full (Ok n) e = absurd (let z : ◌≡◌ {A = ℕ} 0 1 = cc in omega arith)
+is_full (Err x) e = refl
 
-same_place : (n m : ℕ) → ◌≡◌ {A = Result ℕ NoRoom} (Ok n) (Ok m) → n ≡ m
-same_place n m e = cc
+told : (l room n : ℕ) (t : Bool) → leb l room ≡ t → Ok n ≡ cond t (Ok l) (Err no_room) → (n ≡ l) × (l ≤ room)
+told l room n true q z = let s : n ≡ l = cc in (s, leb-true l room q)
+told l room n false q z = absurd (let z : ◌≡◌ {A = ℕ} 0 1 = cc in omega arith)
+
+refused : (l room : ℕ) (t : Bool) → leb l room ≡ t → Err no_room ≡ cond t (Ok l) (Err no_room) → room < l
+refused l room true q z = absurd (let z : ◌≡◌ {A = ℕ} 0 1 = cc in omega arith)
+refused l room false q z = leb-false l room q
+
+pub laid : (text before after : List ℕ) (n : ℕ) → Lays text before after (Ok n) → (n ≡ length text) × (length text ≤ length before)
+laid text before after n p = told (length text) (length before) n (leb (length text) (length before)) refl p.answer
+
+no-room : (text before after : List ℕ) → Lays text before after (Err no_room) → length before < length text
+no-room text before after p = refused (length text) (length before) (leb (length text) (length before)) refl p.answer
+
+pub nothing : (b : List ℕ) → Lays [] b b (Ok 0)
+nothing b = record { answer = rw (le-leb 0 (length b) (omega arith)); memory = λ h. refl; long = refl }
 
 -- ── a text with all or nothing of it written ──
 module _ (text before after : List ℕ) (r : Result ℕ NoRoom) (p : Puts text before after r) where
-  put_all : length text ≤ length before → after ≡ text ++ drop (length text) before
-  put_all h = p.memory ∙ rw (le-leb (length text) (length before) h)
+  put-long : (t : Bool) → leb (length text) (length before) ≡ t → length (cond t (text ++ drop (length text) before) before) ≡ length before
+  put-long true h = let l = leb-true (length text) (length before) h in omega (arith, l, length-append text (drop (length text) before), length-drop (length text) before)
+  put-long false h = refl
 
-  put-long : length after ≡ length before
-  put-long = ap (λ (l : List ℕ). length l) p.memory ∙ kept (leb (length text) (length before)) refl
-    where
-      kept : (t : Bool) → leb (length text) (length before) ≡ t → length (cond t (text ++ drop (length text) before) before) ≡ length before
-      kept true h = let l = leb-true (length text) (length before) h in omega (arith, l, length-append text (drop (length text) before), length-drop (length text) before)
-      kept false h = refl
-
--- ── where there is no room ──
-pub none_left : (text before : List ℕ) (at : Result ℕ NoRoom) → at ≡ Err no_room → Writes text at before before (Err no_room)
-none_left text before at e = rw e (record { answer = refl; memory = λ n z. full-bytes z; long = refl })
-
-pub beyond : (text before : List ℕ) (at : Result ℕ NoRoom) (n : ℕ) → at ≡ Ok n → length before < n → Writes text at before before (Err no_room)
-beyond text before at n e h =
-    rw e
-    (record {
-      answer = sym (rw (lt-leb (n + length text) (length before) (omega arith)));
-      memory = λ m z k. absurd (omega (arith, same_place n m z, h, k));
-      long = refl;
-    })
-
--- ── a text in the rest of the output ──
-module _ (text before after : List ℕ) (n : ℕ) (r : Result ℕ NoRoom) (h : n ≤ length before) (p : Puts text (take (length before - n) (drop n before)) after r) where
-  rest_put : Puts text (drop n before) after r
-  rest_put = rw (rest_all n before) at p
-
-  rest-long : length (drop n before) ≡ length before - n
-  rest-long = length-drop n before
-
-  -- the output with the rest put back
-  back : put_mid n (length before - n) before after ≡ take n before ++ after
-  back =
-      ap (λ (l : List ℕ). take n before ++ (after ++ l)) (drop_of_length-le (drop n before) {i = length before - n} (omega (arith, rest-long)))
-      ∙ ap (λ (l : List ℕ). take n before ++ l) (append-nil after)
-
-  moved : (t : Bool) → leb (length text) (length (drop n before)) ≡ t → shift n r ≡ go_on text (Ok n) (length before)
-  moved true e =
-      let l = leb-true (length text) (length (drop n before)) e in
-      ap (shift n) rest_put.answer ∙ rw (e, le-leb (n + length text) (length before) (omega (arith, l, rest-long)))
-  moved false e =
-      let l = leb-false (length text) (length (drop n before)) e in
-      ap (shift n) rest_put.answer ∙ rw (e, lt-leb (n + length text) (length before) (omega (arith, l, rest-long)))
-
-  placed : Writes text (Ok n) before (put_mid n (length before - n) before after) (shift n r)
-  placed =
+  pub whole : Lays text before after r
+  whole =
       record {
-        answer = moved (leb (length text) (length (drop n before))) refl;
-        memory = λ m z k.
-            let q = same_place n m z in
-            let f = put_all text (drop n before) after r rest_put (omega (arith, q, k, rest-long)) in
-            rw (← q) (back ∙ ap (λ (l : List ℕ). take n before ++ l) (f ∙ ap (λ (l : List ℕ). text ++ l) (drop-drop (length text) n before)));
-        long = ap (λ (l : List ℕ). length l) back ∙ length-append (take n before) after ∙ omega (arith, put-long text (drop n before) after r rest_put, rest-long, length-take-le n before h);
+        answer = p.answer;
+        memory = λ h. p.memory ∙ rw (le-leb (length text) (length before) h);
+        long = ap (λ (l : List ℕ). length l) p.memory ∙ put-long (leb (length text) (length before)) refl;
       }
 
--- the same, by what is known of the answers
-module _ (text before after : List ℕ) (at r : Result ℕ NoRoom) (n : ℕ) (e : at ≡ Ok n) (h : n ≤ length before) (p : Puts text (take (length before - n) (drop n before)) after r) where
-  there : Writes text (Ok n) before (put_mid n (length before - n) before after) (shift n r)
-  there = placed text before after n r h p
-
-  pub placed-full : r ≡ Err no_room → Writes text at before (put_mid n (length before - n) before after) (Err no_room)
-  placed-full f = rw e (rw f at there)
-
-  pub placed-bytes : (m : ℕ) → r ≡ Ok m → Writes text at before (put_mid n (length before - n) before after) (Ok (n + m))
-  placed-bytes m f = rw e (rw f at there)
-
-  pub placed-room : (m : ℕ) → r ≡ Ok m → n + m ≤ length before
-  placed-room m f = go (leb (n + length text) (length before)) refl (rw f at there.answer)
-    where
-      go : (t : Bool) → leb (n + length text) (length before) ≡ t → Ok (n + m) ≡ cond t (Ok (n + length text)) (Err no_room) → n + m ≤ length before
-      go true q z = let s = same_place (n + m) (n + length text) z in omega (arith, s, leb-true (n + length text) (length before) q)
-      go false q z = full-bytes (sym z)
+module _ (text before after : List ℕ) (r : Result ℕ NoRoom) (p : Lays text before after r) where
+  pub printed : Within before after r × Prints text before after r
+  printed = (
+    record { long = p.long; within = λ n e. let l = laid text before after n (rw e at p) in omega (arith, l.0, l.1) },
+    record { answer = p.answer; memory = p.memory },
+  )
 
 -- ── one text and then another ──
-module _ (a d b c e : List ℕ) where
-  both-answer : (p q r : Result ℕ NoRoom) → q ≡ go_on a p (length b) → r ≡ go_on d q (length b) → r ≡ go_on (a ++ d) p (length b)
-  both-answer (Err no_room) q r f g = g ∙ ap (λ (w : Result ℕ NoRoom). go_on d w (length b)) f
-  both-answer (Ok n) q r f g = g ∙ ap (λ (w : Result ℕ NoRoom). go_on d w (length b)) f ∙ go (leb (n + length a) (length b)) refl
-    where
-      sum : n + length a + length d ≡ n + length (a ++ d)
-      sum = omega (arith, length-append a d)
+module _ (a d b c : List ℕ) where
+  both-long : length (a ++ d) ≡ length a + length d
+  both-long = length-append a d
 
-      go : (t : Bool) → leb (n + length a) (length b) ≡ t → go_on d (cond t (Ok (n + length a)) (Err no_room)) (length b) ≡ go_on (a ++ d) (Ok n) (length b)
-      go true k = ap (λ (m : ℕ). cond (leb m (length b)) (Ok m) (Err no_room)) sum
-      go false k = sym (rw (lt-leb (n + length (a ++ d)) (length b) (omega (arith, sum, leb-false (n + length a) (length b) k))))
-
-  both-memory : (n : ℕ) → n + length (a ++ d) ≤ length b → c ≡ take n b ++ (a ++ drop (n + length a) b)
-      → e ≡ take (n + length a) c ++ (d ++ drop (n + length a + length d) c) → e ≡ take n b ++ ((a ++ d) ++ drop (n + length (a ++ d)) b)
-  both-memory n h f g =
-      let x = take n b ++ a in
-      let y = drop (n + length a) b in
-      let whole : c ≡ x ++ y = f ∙ sym (append_assoc (take n b) a y) in
-      let long : length x ≡ n + length a = length-append (take n b) a ∙ omega (arith, length-take-le n b (omega (arith, h))) in
-      let front : take (n + length a) c ≡ x = ap (take (n + length a)) whole ∙ take_at x y (n + length a) long in
-      let sum : n + length a + length d ≡ n + length (a ++ d) = omega (arith, length-append a d) in
-      let behind : drop (n + length a + length d) c ≡ drop (n + length (a ++ d)) b =
-      ap (drop (n + length a + length d)) whole
-      ∙ ap (λ (m : ℕ). drop (m + length d) (x ++ y)) (sym long)
-      ∙ drop-append-add x y (length d)
-      ∙ drop-drop (length d) (n + length a) b
-      ∙ ap (λ (m : ℕ). drop m b) sum in
-      g ∙ rw (front, behind)
-      (append_assoc (take n b) a (d ++ drop (n + length (a ++ d)) b)
-      ∙ ap (λ (l : List ℕ). take n b ++ l) (sym (append_assoc a d (drop (n + length (a ++ d)) b))))
-
-  pub then : (p q r : Result ℕ NoRoom) → Writes a p b c q → Writes d q c e r → Writes (a ++ d) p b e r
-  then p q r f g =
+  -- the first did not fit
+  pub first_full : Lays a b c (Err no_room) → Lays (a ++ d) b c (Err no_room)
+  first_full p =
+      let f = no-room a b c p in
       record {
-        answer = both-answer p q r f.answer (rw f.long at g.answer);
-        memory = λ n z h.
-            let fits : n + length a ≤ length b = omega (arith, h, length-append a d) in
-            let there : q ≡ Ok (n + length a) = f.answer ∙ rw (z, le-leb (n + length a) (length b) fits) in
-            both-memory n h (f.memory n z fits) (g.memory (n + length a) there (rw f.long (omega (arith, h, length-append a d))));
-        long = g.long ∙ f.long;
+        answer = sym (rw (lt-leb (length (a ++ d)) (length b) (omega (arith, both-long, f))));
+        memory = λ h. absurd (omega (arith, both-long, f, h));
+        long = p.long;
       }
 
--- ── at the front ──
-pub from_front : (text before after : List ℕ) (r : Result ℕ NoRoom) → Puts text before after r → Writes text (Ok 0) before after r
-from_front text before after r p =
-    record {
-      answer = rw (zero-add (length text)) p.answer;
-      memory = λ n z h.
-          let q = same_place 0 n z in
-          rw (← q, zero-add (length text)) (put_all text before after r p (omega (arith, q, h)));
-      long = put-long text before after r p;
-    }
+  module _ (n : ℕ) (p : Lays a b c (Ok n)) where
+    ends : (n ≡ length a) × (length a ≤ length b)
+    ends = laid a b c n p
 
-pub at_front : (text before after : List ℕ) (r : Result ℕ NoRoom) → Writes text (Ok 0) before after r → Prints text before after r
-at_front text before after r p =
-    record {
-      answer = rw (zero-add (length text)) at p.answer;
-      memory = λ h. rw (zero-add (length text)) at (p.memory 0 refl (omega (arith, h)));
-    }
+    pub first_within : n ≤ length c
+    first_within = omega (arith, ends.0, ends.1, p.long)
 
--- whatever is written from the front on ends within the output
-pub front-within : (text before after : List ℕ) (r : Result ℕ NoRoom) → Writes text (Ok 0) before after r → Within before after r
-front-within text before after r p =
-    record { long = p.long; within = λ n e. go n (leb (0 + length text) (length before)) refl (sym e ∙ p.answer) }
-  where
-    go : (n : ℕ) (t : Bool) → leb (0 + length text) (length before) ≡ t → Ok n ≡ cond t (Ok (0 + length text)) (Err no_room) → n ≤ length before
-    go n true q z = let s = same_place n (0 + length text) z in omega (arith, s, leb-true (0 + length text) (length before) q)
-    go n false q z = full-bytes (sym z)
+    first-is : c ≡ a ++ drop n b
+    first-is = rw ends.0 (p.memory ends.1)
+
+    take-first : take n c ≡ a
+    take-first = ap (take n) first-is ∙ take_at a (drop n b) n (sym ends.0)
+
+    drop_more : (k : ℕ) → drop k (drop n c) ≡ drop (n + k) b
+    drop_more k = drop-drop k n c ∙ ap (drop (n + k)) first-is ∙ rw ends.0 (drop-append-add a (drop (length a) b) k ∙ drop-drop k (length a) b)
+
+    module _ (e : List ℕ) (r : Result ℕ NoRoom) (q : Lays d (take (length c - n) (drop n c)) e r) where
+      rest-long : length (take (length c - n) (drop n c)) ≡ length c - n
+      rest-long = ap (λ (l : List ℕ). length l) (rest_all n c) ∙ length-drop n c
+
+      -- the output with the rest put back
+      back : put_mid n (length c - n) c e ≡ a ++ e
+      back =
+          ap (λ (l : List ℕ). take n c ++ (e ++ l)) (drop_of_length-le (drop n c) {i = length c - n} (omega (arith, length-drop n c)))
+          ∙ ap (λ (l : List ℕ). take n c ++ l) (append-nil e)
+          ∙ ap (λ (l : List ℕ). l ++ e) take-first
+
+      back-long : length (put_mid n (length c - n) c e) ≡ length b
+      back-long = ap (λ (l : List ℕ). length l) back ∙ length-append a e ∙ omega (arith, q.long, rest-long, ends.0, ends.1, p.long)
+
+      back-memory : length (a ++ d) ≤ length b → put_mid n (length c - n) c e ≡ (a ++ d) ++ drop (length (a ++ d)) b
+      back-memory h =
+          let fits : length d ≤ length (take (length c - n) (drop n c)) = omega (arith, both-long, h, rest-long, ends.0, p.long) in
+          let sum : n + length d ≡ length (a ++ d) = omega (arith, both-long, ends.0) in
+          back
+          ∙ ap (λ (l : List ℕ). a ++ l) (q.memory fits ∙ ap (λ (l : List ℕ). d ++ drop (length d) l) (rest_all n c) ∙ ap (λ (l : List ℕ). d ++ l) (drop_more (length d) ∙ ap (λ (m : ℕ). drop m b) sum))
+          ∙ sym (append_assoc a d (drop (length (a ++ d)) b))
+
+    pub second_full : (e : List ℕ) → Lays d (take (length c - n) (drop n c)) e (Err no_room) → Lays (a ++ d) b (put_mid n (length c - n) c e) (Err no_room)
+    second_full e q =
+        let f = no-room d (take (length c - n) (drop n c)) e q in
+        record {
+          answer = sym (rw (lt-leb (length (a ++ d)) (length b) (omega (arith, both-long, f, rest-long e (Err no_room) q, ends.0, p.long))));
+          memory = back-memory e (Err no_room) q;
+          long = back-long e (Err no_room) q;
+        }
+
+    module _ (e : List ℕ) (m : ℕ) (q : Lays d (take (length c - n) (drop n c)) e (Ok m)) where
+      pub sum_within : n + m ≤ length c
+      sum_within = let l = laid d (take (length c - n) (drop n c)) e m q in omega (arith, l.0, l.1, rest-long e (Ok m) q, first_within)
+
+      pub both : Lays (a ++ d) b (put_mid n (length c - n) c e) (Ok (n + m))
+      both =
+          let l = laid d (take (length c - n) (drop n c)) e m q in
+          let sum : n + m ≡ length (a ++ d) = omega (arith, both-long, ends.0, l.0) in
+          record {
+            answer = ap Ok sum ∙ sym (rw (le-leb (length (a ++ d)) (length b) (omega (arith, sum, sum_within, p.long))));
+            memory = back-memory e (Ok m) q;
+            long = back-long e (Ok m) q;
+          }

@@ -4,4 +4,3 @@
 mod contents;
 mod pieces;
 pub mod rows;
-mod texts;
