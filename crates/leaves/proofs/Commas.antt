@@ -18,7 +18,7 @@ use Rattle.leaves.specs.Bytes.{up_to, past}
 use Rattle.leaves.specs.Readings.{sign_of}
 use Rattle.leaves.specs.Pieces.{decimal_piece, sign_length, size_at, size_piece, DigitsRead, RunRead}
 use Rattle.leaves.specs.declared.DecimalPiece.{DecimalPiece}
-use Rattle.leaves.specs.declared.pieces.SizeEnd.{SizeEnd}
+use Rattle.leaves.specs.declared.pieces.NumberEnd.{NumberEnd}
 use Rattle.leaves.proofs.Scan.{at, up_to-end, up_to_hit, up_to_miss}
 use Rattle.leaves.proofs.Cuts.{up_to-none, cut-whole, cut-two}
 use Rattle.leaves.proofs.Digits.{digit_bounds, value_lt, ten-most, OnSome}
@@ -203,13 +203,13 @@ module _ (s : List ℕ) (a : ℕ) where
   unfolding size_piece
   no_size r = rw r
 
-  pub size-was : (z : SizeEnd) → size_piece a s ≡ Some z → (read_size (up_to 44 (drop a s)) ≡ Some z.value) × (z.end ≡ a + length (up_to 44 (drop a s)))
+  pub size-was : (z : NumberEnd) → size_piece a s ≡ Some z → (read_size (up_to 44 (drop a s)) ≡ Some z.value) × (z.end ≡ a + length (up_to 44 (drop a s)))
   unfolding size_piece
   size-was z e = go (read_size (up_to 44 (drop a s))) e
     where
       go : (o : Option ℕ) → size_at (a + length (up_to 44 (drop a s))) o ≡ Some z → (o ≡ Some z.value) × (z.end ≡ a + length (up_to 44 (drop a s)))
       go None e = absurd (let n : ◌≡◌ {A = ℕ} 0 1 = cc in omega arith)
-      go (Some v) e = let q : record { value = v; end = a + length (up_to 44 (drop a s)) } ≡ z = cc in (ap (λ (y : SizeEnd). Some y.value) q, ap (λ (y : SizeEnd). y.end) (sym q))
+      go (Some v) e = let q : record { value = v; end = a + length (up_to 44 (drop a s)) } ≡ z = cc in (ap (λ (y : NumberEnd). Some y.value) q, ap (λ (y : NumberEnd). y.end) (sym q))
 
   pub size-was-not : size_piece a s ≡ None → read_size (up_to 44 (drop a s)) ≡ None
   unfolding size_piece
@@ -314,7 +314,7 @@ module _ (s : List ℕ) (k : ℕ) (g : k ≡ sign_length s) where
   unfolding decimal_piece
   not_piece e q h = rw (behind_sign, size-was-not s k h, q)
 
-  module _ (z : SizeEnd) (h : size_piece k s ≡ Some z) where
+  module _ (z : NumberEnd) (h : size_piece k s ≡ Some z) where
     pub minus-piece : k ≡ 1 → piece_at z.end (minus z.value) ≡ decimal_piece s
     unfolding decimal_piece
     minus-piece o = let w = size-was s k z h in rw (behind_sign, w.0, eq-eqb k 1 o, end-behind, w.1)

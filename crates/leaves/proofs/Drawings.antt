@@ -10,14 +10,15 @@ use lib.Dec.{eqb, leb, ltb}
 use lib.IntN.{pos}
 use lib.ListN.{length, get_or, take, drop, length-append, drop_of_length-le, take-append-drop}
 use lib.Seq.{length-take-le}
-use borrow.Author.Tests.{eq-eqb, ne_eqb, leb-true, le-leb, not-true}
-use Rattle.rules.specs.Base.{all, same, within}
+use borrow.Author.Tests.{eq-eqb, ne_eqb, leb-true, le-leb}
+use Rattle.rules.specs.Base.{same, within}
 use Rattle.rules.specs.Numbers.{fixed_onto, show_count, read_count}
 use Rattle.rules.specs.RefusalNumbers.{got, unless, map_g, or_bad, keep, cons_g}
 use Rattle.rules.specs.Values.{Num, num, multipliers, plain_sheets, large_sheets, sheets, two_nums, find_sheet, natural, good_ratio, with_one, read_ratio}
-use Rattle.rules.proofs.Chains.{and_left, and_right, and_true, and_false, clash, cond_same}
+use Rattle.rules.proofs.Chains.{and_left, and_right, and_true, and_false, clash}
 use Rattle.leaves.specs.Bytes.{up_to, past}
-use Rattle.leaves.specs.Drawing.{sheet_of, multiplier_in, plain_sheet, large_sheet, ratio_of, in_scale, one_count, two_counts}
+use Rattle.leaves.specs.declared.SheetSize.{SheetSize}
+use Rattle.leaves.specs.Drawing.{sheet_of, multiplier_in, numbered_sheet, plain_sheet, large_sheet, ratio_of, in_scale, one_count, two_counts}
 use Rattle.leaves.proofs.Scan.{same-long, at, rest_all}
 use Rattle.leaves.proofs.Cuts.{up_to-take, past-drop, cut-whole, cut-two}
 
@@ -26,63 +27,12 @@ two_digits : (n : ℕ) → show_count 2 n ≡ cond (eqb (48 + n / 10 % 10) 48) (
 unfolding fixed_onto
 two_digits n = refl
 
-one_byte : (s : List ℕ) (b : ℕ) → length s ≡ 1 → eqb (get_or s 0 0) b ≡ same s (b ∷ [])
-one_byte [] b h = absurd (omega arith)
-one_byte (a ∷ []) b h = go (eqb a b)
-  where
-    go : (t : Bool) → t ≡ (t && true)
-    go true = refl
-    go false = refl
-one_byte (a ∷ c ∷ s) b h = absurd (omega arith)
+module _ (n : ℕ) where
+  pub one-digit : 48 + n / 10 % 10 ≡ 48 → show_count 2 n ≡ (48 + n % 10) ∷ []
+  one-digit e = two_digits n ∙ rw (eq-eqb (48 + n / 10 % 10) 48 e)
 
-two_bytes : (s : List ℕ) (a b : ℕ) → length s ≡ 2 → (eqb (get_or s 0 0) a && eqb (get_or s 1 0) b) ≡ same s (a ∷ b ∷ [])
-two_bytes [] a b h = absurd (omega arith)
-two_bytes (x ∷ []) a b h = absurd (omega arith)
-two_bytes (x ∷ y ∷ []) a b h = go (eqb x a) (eqb y b)
-  where
-    go : (t u : Bool) → (t && u) ≡ (t && (u && true))
-    go true true = refl
-    go true false = refl
-    go false u = refl
-two_bytes (x ∷ y ∷ z ∷ s) a b h = absurd (omega arith)
-
-module _ (s : List ℕ) (n : ℕ) where
-  module _ (e : 48 + n / 10 % 10 ≡ 48) where
-    one-digit : show_count 2 n ≡ (48 + n % 10) ∷ []
-    one-digit = two_digits n ∙ rw (eq-eqb (48 + n / 10 % 10) 48 e)
-
-    pub number-one : length s ≡ 1 → eqb (get_or s 0 0) (48 + n % 10) ≡ same s (show_count 2 n)
-    number-one h = one_byte s (48 + n % 10) h ∙ sym (ap (same s) one-digit)
-
-    pub number-not-one : (length s ≡ 1 → ⊥) → false ≡ same s (show_count 2 n)
-    number-not-one h = sym (ap (same s) one-digit ∙ same-long s ((48 + n % 10) ∷ []) h)
-
-  module _ (e : 48 + n / 10 % 10 ≡ 48 → ⊥) where
-    both-digits : show_count 2 n ≡ (48 + n / 10 % 10) ∷ (48 + n % 10) ∷ []
-    both-digits = two_digits n ∙ rw (ne_eqb (48 + n / 10 % 10) 48 e)
-
-    pub number-two : length s ≡ 2 → (eqb (get_or s 0 0) (48 + n / 10 % 10) && eqb (get_or s 1 0) (48 + n % 10)) ≡ same s (show_count 2 n)
-    number-two h = two_bytes s (48 + n / 10 % 10) (48 + n % 10) h ∙ sym (ap (same s) both-digits)
-
-    pub number-not-two : (length s ≡ 2 → ⊥) → false ≡ same s (show_count 2 n)
-    number-not-two h = sym (ap (same s) both-digits ∙ same-long s ((48 + n / 10 % 10) ∷ (48 + n % 10) ∷ []) h)
-
-    pub number-first : length s ≡ 2 → (get_or s 0 0 ≡ 48 + n / 10 % 10 → ⊥) → false ≡ same s (show_count 2 n)
-    number-first h d = rw (ne_eqb (get_or s 0 0) (48 + n / 10 % 10) d) at (number-two h)
-
-    pub number-last : length s ≡ 2 → get_or s 0 0 ≡ 48 + n / 10 % 10 → eqb (get_or s 1 0) (48 + n % 10) ≡ same s (show_count 2 n)
-    number-last h d = rw (eq-eqb (get_or s 0 0) (48 + n / 10 % 10) d) at (number-two h)
-
--- ── the table, number by number ──
-module _ (s ns : List ℕ) (i : ℕ) where
-  pub multiplier_hit : i < length ns → same s (show_count 2 (get_or ns i 0)) ≡ true → multiplier_in s (drop i ns) ≡ get_or ns i 0
-  multiplier_hit h e = rw (at ns i h, e)
-
-  pub multiplier_miss : i < length ns → same s (show_count 2 (get_or ns i 0)) ≡ false → multiplier_in s (drop i ns) ≡ multiplier_in s (drop (i + 1) ns)
-  multiplier_miss h e = rw (at ns i h, e)
-
-  pub multiplier-end : length ns ≤ i → multiplier_in s (drop i ns) ≡ 0
-  multiplier-end h = rw (drop_of_length-le ns h)
+  pub both-digits : (48 + n / 10 % 10 ≡ 48 → ⊥) → show_count 2 n ≡ (48 + n / 10 % 10) ∷ (48 + n % 10) ∷ []
+  both-digits e = two_digits n ∙ rw (ne_eqb (48 + n / 10 % 10) 48 e)
 
 -- ── a sheet's name, by what stands before its last two bytes ──
 pub last-two : (s : List ℕ) (e : ℕ) → e + 2 ≡ length s → s ≡ take e s ++ get_or s e 0 ∷ get_or s (e + 1) 0 ∷ []
@@ -124,41 +74,50 @@ large-none p x y [] h k = refl
 large-none p x y (n ∷ ns) h k =
     rw (same_ends p (show_count 2 n) x y 65 48, same_ends p (show_count 2 n) x y 65 49, h, k, and_false (same p (show_count 2 n))) (large-none p x y ns h k)
 
--- A0 and A1 behind a number
-abbrev not_zero : ℕ → Bool
-not_zero n = not (eqb n 0)
+-- A0 and A1 behind a number, where there is one
+abbrev behind : Bool → Option ℕ → Option SheetSize
+behind z None = None
+behind z (Some n) = Some (record { multiplier = n; number = cond z 0 1 })
 
 -- z: the last byte is 0, and not 1
-large-digit : (p ns : List ℕ) (y : ℕ) (z : Bool) → eqb y 48 ≡ z → eqb y 49 ≡ not z → all not_zero ns ≡ true
-    → sheet_of (find_sheet (p ++ 65 ∷ y ∷ []) (large_sheets ns)) ≡ cond (eqb (multiplier_in p ns) 0) None (Some (record { multiplier = multiplier_in p ns; number = cond z 0 1 }))
-large-digit p [] y z e f h = refl
-large-digit p (n ∷ ns) y z e f h =
-    rw (same_ends p (show_count 2 n) 65 y 65 48, same_ends p (show_count 2 n) 65 y 65 49, e, f)
-    (go (same p (show_count 2 n)) z (not-true (eqb n 0) (and_left (not_zero n) _ h)) (large-digit p ns y z e f (and_right (not_zero n) _ h)))
+large-digit : (p ns : List ℕ) (y : ℕ) (z : Bool) → eqb y 48 ≡ z → eqb y 49 ≡ not z
+    → sheet_of (find_sheet (p ++ 65 ∷ y ∷ []) (large_sheets ns)) ≡ behind z (multiplier_in p ns)
+large-digit p [] y z e f = refl
+large-digit p (n ∷ ns) y z e f =
+    rw (same_ends p (show_count 2 n) 65 y 65 48, same_ends p (show_count 2 n) 65 y 65 49, e, f) (go (same p (show_count 2 n)) z (large-digit p ns y z e f))
   where
-    go : (t z : Bool) → eqb n 0 ≡ false
-        → sheet_of (find_sheet (p ++ 65 ∷ y ∷ []) (large_sheets ns)) ≡ cond (eqb (multiplier_in p ns) 0) None (Some (record { multiplier = multiplier_in p ns; number = cond z 0 1 }))
+    go : (t z : Bool) → sheet_of (find_sheet (p ++ 65 ∷ y ∷ []) (large_sheets ns)) ≡ behind z (multiplier_in p ns)
         → sheet_of (cond (t && (true && (z && true))) (Some (two_nums n 0)) (cond (t && (true && (not z && true))) (Some (two_nums n 1)) (find_sheet (p ++ 65 ∷ y ∷ []) (large_sheets ns))))
-        ≡ cond (eqb (cond t n (multiplier_in p ns)) 0) None (Some (record { multiplier = cond t n (multiplier_in p ns); number = cond z 0 1 }))
-    go true true q e = rw q
-    go true false q e = rw q
-    go false z q e = e
+        ≡ behind z (cond t (Some n) (multiplier_in p ns))
+    go true true e = refl
+    go true false e = refl
+    go false z e = e
+
+behind-zero : (o : Option ℕ) → behind true o ≡ large_sheet o 48
+unfolding large_sheet
+behind-zero None = refl
+behind-zero (Some n) = refl
+
+behind-one : (o : Option ℕ) → behind false o ≡ large_sheet o 49
+unfolding large_sheet
+behind-one None = refl
+behind-one (Some n) = refl
 
 outside : (lo hi y k : ℕ) → within lo hi y ≡ false → lo ≤ k → k ≤ hi → eqb y k ≡ false
 outside lo hi y k h l u = ne_eqb y k (λ e. clash (and_true (leb lo y) (leb y hi) (le-leb lo y (omega arith)) (le-leb y hi (omega arith))) h)
 
-no_large : (n y : ℕ) → within 48 49 y ≡ false → large_sheet n y ≡ None
+no_large : (o : Option ℕ) (y : ℕ) → within 48 49 y ≡ false → large_sheet o y ≡ None
 unfolding large_sheet
-no_large n y e = rw e (cond_same (eqb n 0) None)
+no_large None y e = refl
+no_large (Some n) y e = rw e
 
 -- any last byte
-pub large-found : (p : List ℕ) (y : ℕ) (ns : List ℕ) → all not_zero ns ≡ true → sheet_of (find_sheet (p ++ 65 ∷ y ∷ []) (large_sheets ns)) ≡ large_sheet (multiplier_in p ns) y
-unfolding large_sheet
-large-found p y ns h = go (within 48 49 y) refl
+pub large-found : (p : List ℕ) (y : ℕ) (ns : List ℕ) → sheet_of (find_sheet (p ++ 65 ∷ y ∷ []) (large_sheets ns)) ≡ large_sheet (multiplier_in p ns) y
+large-found p y ns = go (within 48 49 y) refl
   where
     inside : (k : ℕ) → y ≡ 48 + k → k ≤ 1 → sheet_of (find_sheet (p ++ 65 ∷ y ∷ []) (large_sheets ns)) ≡ large_sheet (multiplier_in p ns) y
-    inside zero e l = rw e (large-digit p ns 48 true refl refl h)
-    inside (suc zero) e l = rw e (large-digit p ns 49 false refl refl h)
+    inside zero e l = rw e (large-digit p ns 48 true refl refl ∙ behind-zero (multiplier_in p ns))
+    inside (suc zero) e l = rw e (large-digit p ns 49 false refl refl ∙ behind-one (multiplier_in p ns))
     inside (suc (suc k)) e l = absurd (omega arith)
 
     go : (t : Bool) → within 48 49 y ≡ t → sheet_of (find_sheet (p ++ 65 ∷ y ∷ []) (large_sheets ns)) ≡ large_sheet (multiplier_in p ns) y
@@ -220,13 +179,13 @@ sheet-plain : (y : ℕ) → sheet_of (find_sheet (65 ∷ y ∷ []) sheets) ≡ p
 sheet-plain y = ap sheet_of (sheets-two (65 ∷ y ∷ [])) ∙ go (find_sheet (65 ∷ y ∷ []) plain_sheets) refl
   where
     go : (o : Option (List Num)) → find_sheet (65 ∷ y ∷ []) plain_sheets ≡ o → sheet_of (first o (find_sheet (65 ∷ y ∷ []) (large_sheets multipliers))) ≡ plain_sheet y
-    go None e = large-found [] y multipliers refl ∙ no_number y ∙ ap sheet_of (sym e) ∙ plain-found y
+    go None e = large-found [] y multipliers ∙ no_number y ∙ ap sheet_of (sym e) ∙ plain-found y
     go (Some v) e = ap sheet_of (sym e) ∙ plain-found y
 
 sheet_large : (c : ℕ) (p : List ℕ) (y : ℕ) → sheet_of (find_sheet (c ∷ (p ++ 65 ∷ y ∷ [])) sheets) ≡ large_sheet (multiplier_in (c ∷ p) multipliers) y
 sheet_large c p y =
     ap sheet_of (sheets-two (c ∷ (p ++ 65 ∷ y ∷ [])) ∙ ap (λ (o : Option (List Num)). first o (find_sheet (c ∷ (p ++ 65 ∷ y ∷ [])) (large_sheets multipliers))) (plain-none c p 65 y))
-    ∙ large-found (c ∷ p) y multipliers refl
+    ∙ large-found (c ∷ p) y multipliers
 
 module _ (s : List ℕ) (e : ℕ) (h : e + 2 ≡ length s) where
   pub sheet-other : (get_or s e 0 ≡ 65 → ⊥) → find_sheet s sheets ≡ None
@@ -247,6 +206,15 @@ module _ (s : List ℕ) (e : ℕ) (h : e + 2 ≡ length s) where
         go : (p : List ℕ) → length p ≡ e → large_sheet (multiplier_in p multipliers) (get_or s (e + 1) 0) ≡ sheet_of (find_sheet (p ++ 65 ∷ get_or s (e + 1) 0 ∷ []) sheets)
         go [] l = absurd (z (sym l))
         go (c ∷ p) l = sym (sheet_large c p (get_or s (e + 1) 0))
+
+    -- behind the multiplier, if there is one
+    pub sheet-bare : (e ≡ 0 → ⊥) → multiplier_in (take e s) multipliers ≡ None → sheet_of (find_sheet s sheets) ≡ None
+    unfolding large_sheet
+    sheet-bare z m = sym (rw m at (sheet-number z))
+
+    pub sheet-behind : (e ≡ 0 → ⊥) → (n : ℕ) → multiplier_in (take e s) multipliers ≡ Some n → numbered_sheet n 49 (get_or s (e + 1) 0) ≡ sheet_of (find_sheet s sheets)
+    unfolding large_sheet
+    sheet-behind z n m = rw m at (sheet-number z)
 
 -- ── the scale ──
 module _ (s : List ℕ) where

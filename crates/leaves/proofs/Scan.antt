@@ -2,14 +2,19 @@
 use Prim.Native.Nat.{ℕ, suc, ◌+◌, ◌-◌, ◌<◌, ◌≤◌}
 use mathlib.Core.Path.{◌≡◌, refl, ap}
 use mathlib.Core.List.{List, [], ◌∷◌}
-use mathlib.Core.Bool.{Bool, true, false, ◌&&◌, not}
+use mathlib.Core.Bool.{Bool, true, false, cond, ◌&&◌, not}
 use native.Mathlib.Numerals.{add-one}
 use native.Mathlib.Nat.{le_of_eq}
 use native.Mathlib.Omega.{arith}
-use lib.Dec.{eqb, leb}
+use lib.Dec.{eqb, leb, ltb}
 use lib.ListN.{length, get_or, drop, take, drop_of_length-le, length-drop}
 use lib.Seq.{drop-cons, take_all}
-use borrow.Author.Tests.{eq-eqb, ne_eqb, leb-true}
+use borrow.Author.Tests.{eq-eqb, ne_eqb, leb-true, ltb-false}
+use Rattle.std.specs.Prelude.{Option, Some, None}
+use Rattle.std.proofs.lemmas.List.Sums.{prefix_len-le-length}
+use Rattle.std.specs.Cmp.Lexicographic.{pointwise}
+use Rattle.std.specs.List.{list_all, position, position_or_len}
+use Rattle.std.specs.Option.{unwrap_or}
 use Rattle.rules.specs.Base.{all, same, within}
 use Rattle.rules.specs.Lines.{allowed_from}
 use Rattle.rules.specs.Numbers.{is_digit}
@@ -39,6 +44,19 @@ module _ (c : ℕ) (s : List ℕ) (i : ℕ) where
   unfolding up_to
   up_to-end h = rw (drop_of_length-le s h)
 
+-- ── the first place that passes, or the length ──
+pub first_place : (p : ℕ → Bool) (s : List ℕ) (o : Option ℕ) (n : ℕ) → o ≡ position p s → n ≡ length s → unwrap_or o n ≡ position_or_len p s
+first_place p s o n f l = rw (f, l) (go (ltb (position_or_len p s) (length s)) refl)
+  where
+    go : (t : Bool) → ltb (position_or_len p s) (length s) ≡ t → unwrap_or (cond t (Some (position_or_len p s)) None) (length s) ≡ position_or_len p s
+    go true q = refl
+    go false q = omega (arith, ltb-false (position_or_len p s) (length s) q, prefix_len-le-length (λ x. not (p x)) s)
+
+pub up_to_place : (c : ℕ) (s : List ℕ) → position_or_len (λ x. eqb x c) s ≡ length (up_to c s)
+unfolding up_to
+up_to_place c [] = refl
+up_to_place c (b ∷ s) = elim (eqb b c) as (λ t. cond (not t) (1 + position_or_len (λ x. eqb x c) s) 0 ≡ length (cond t [] (b ∷ up_to c s))) [ true ↦ refl | false ↦ omega (arith, up_to_place c s) ]
+
 -- ── two lists side by side ──
 module _ (a b : List ℕ) (i : ℕ) where
   pub same_step : i < length a → i < length b → get_or a i 0 ≡ get_or b i 0 → same (drop i a) (drop i b) ≡ same (drop (i + 1) a) (drop (i + 1) b)
@@ -56,7 +74,18 @@ same-long [] (y ∷ ys) h = refl
 same-long (x ∷ xs) [] h = refl
 same-long (x ∷ xs) (y ∷ ys) h = rw (same-long xs ys (λ e. h (ap suc e))) (and_false (eqb x y))
 
+-- `==` on two slices
+pub same_is : (a b : List ℕ) → pointwise eqb a b ≡ same a b
+same_is [] [] = refl
+same_is [] (y ∷ b) = refl
+same_is (x ∷ a) [] = refl
+same_is (x ∷ a) (y ∷ b) = ap (λ (t : Bool). eqb x y && t) (same_is a b)
+
 -- ── every byte of a kind ──
+pub all_is : (p : ℕ → Bool) (s : List ℕ) → list_all p s ≡ all p s
+all_is p [] = refl
+all_is p (b ∷ s) = ap (λ (t : Bool). p b && t) (all_is p s)
+
 module _ (p : ℕ → Bool) (s : List ℕ) (i : ℕ) where
   pub all-step : i < length s → p (get_or s i 0) ≡ true → all p (drop i s) ≡ all p (drop (i + 1) s)
   all-step h e = rw (at s i h, e)

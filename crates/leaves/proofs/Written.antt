@@ -3,19 +3,18 @@ use Rattle.std.specs.Prelude.{Result, Ok, Err}
 use Prim.Native.Nat.{ℕ, zero, suc, ◌+◌, ◌-◌, ◌/◌, ◌%◌, ◌<◌, ◌≤◌}
 use mathlib.Core.Path.{◌≡◌, refl, ap, sym, subst, ◌∙◌}
 use mathlib.Core.List.{List, [], ◌∷◌, ◌++◌, append-nil, append_assoc}
-use mathlib.Core.Bool.{Bool, true, false, cond}
-use native.Mathlib.Numerals.{add-one}
-use native.Mathlib.Nat.{zero-add}
+use mathlib.Core.Bool.{Bool, true, false, cond, not}
 use native.Mathlib.Omega.{arith}
 use lib.ListN.{length, get_or, take, drop, set, length-set, length-drop, length-append, drop_of_length-le}
-use lib.Seq.{take-suc, take-append-add, drop-append-add, drop-append-le, take_at, take_all, take-length, drop-length, append_snoc, paste, paste-suc, drop-cons, drop-set-lt, get_or-set_same, drop_at, drop-drop, length-take-le}
+use lib.Seq.{take-suc, take-append-add, drop-append-add, drop-append-le, take_at, take_all, drop-length, append_snoc, drop-cons, drop-set-lt, get_or-set_same, drop_at, drop-drop, length-take-le}
 use borrow.Author.Tests.{le-leb, lt-leb, eq-eqb, ne_eqb, leb-true, leb-false}
-use lib.Dec.{leb}
+use lib.Dec.{eqb, leb}
+use Rattle.std.specs.List.{position_or_len}
 use borrow.Rule.Slice.PartMut.{put_mid, put_same, same_len_mid}
 use Rattle.rules.specs.Numbers.{fixed_onto, fixed, trim, end_onto, trim_end, show_count, show_size}
 use Rattle.rules.specs.Values.{show_sheet, show_ratio}
 use Rattle.leaves.specs.Writing.{Puts, laid_size}
-use Rattle.leaves.proofs.Scan.{at, rest_all}
+use Rattle.leaves.proofs.Scan.{rest_all}
 use Rattle.leaves.specs.declared.NoRoom.{NoRoom}
 use Rattle.leaves.specs.NoRoom.{no_room}
 
@@ -26,14 +25,6 @@ module _ (text before : List ℕ) (n : ℕ) where
 
   pub full : length text ≡ n → length before < n → Puts text before before (Err no_room)
   full e h = record { answer = rw (e, lt-leb n (length before) h); memory = sym (rw (e, lt-leb n (length before) h)) }
-
--- ── a copy ──
-pub copy_more : (d s : List ℕ) (i : ℕ) → i < length d → i < length s → set (paste d 0 s i) i (get_or s i 0) ≡ paste d 0 s (i + 1)
-copy_more d s i h k =
-    rw add-one (ap (λ (j : ℕ). set (paste d 0 s i) j (get_or s i 0)) (sym (zero-add i)) ∙ paste-suc d 0 s i 0 (omega arith) k)
-
-pub copy-all : (d s : List ℕ) (i : ℕ) → i ≡ length s → paste d 0 s i ≡ s ++ drop i d
-copy-all d s i e = rw (zero-add i, e, take-length s)
 
 -- ── digits from the last to the first ──
 laid : (out : List ℕ) (j b : ℕ) → j < length out → drop j (set out j b) ≡ b ∷ drop (suc j) out
@@ -59,20 +50,20 @@ pub fixed-length : (w n : ℕ) → length (fixed w n) ≡ w
 fixed-length w n = omega (arith, length-fixed w n [])
 
 -- ── needless zeros ──
-trim-short : (s : List ℕ) → length s ≤ 1 → trim s ≡ s
-trim-short [] h = refl
-trim-short (b ∷ []) h = refl
-trim-short (b ∷ c ∷ s) h = absurd (omega arith)
+abbrev pub other_digit : ℕ → Bool
+other_digit b = not (eqb b 48)
 
-module _ (s : List ℕ) (i : ℕ) where
-  pub trim-zero : i + 1 < length s → get_or s i 0 ≡ 48 → trim (drop i s) ≡ trim (drop (i + 1) s)
-  trim-zero h e = rw (at s i (omega arith), at s (i + 1) h, eq-eqb (get_or s i 0) 48 e)
+-- the first other digit but for the last
+front : (b : ℕ) (s : List ℕ) → drop (position_or_len other_digit (take (length s) (b ∷ s))) (b ∷ s) ≡ trim (b ∷ s)
+front b [] = refl
+front b (c ∷ s) =
+    let k = position_or_len other_digit (take (length s) (c ∷ s)) in
+    let e : 1 + k ≡ suc k = omega arith in
+    elim (eqb b 48) as (λ t. drop (cond (not (not t)) (1 + k) 0) (b ∷ c ∷ s) ≡ cond t (trim (c ∷ s)) (b ∷ c ∷ s)) [ true ↦ ap (λ (n : ℕ). drop n (b ∷ c ∷ s)) e ∙ front c s | false ↦ refl ]
 
-  pub trim-stop : i + 1 < length s → (get_or s i 0 ≡ 48 → ⊥) → trim (drop i s) ≡ drop i s
-  trim-stop h e = rw (at s i (omega arith), at s (i + 1) h, ne_eqb (get_or s i 0) 48 e)
-
-  pub trim_end_lem : length s ≤ i + 1 → trim (drop i s) ≡ drop i s
-  trim_end_lem h = trim-short (drop i s) (omega (arith, length-drop i s))
+pub front-other : (s : List ℕ) → drop (position_or_len other_digit (take (length s - 1) s)) s ≡ trim s
+front-other [] = refl
+front-other (b ∷ s) = let e : suc (length s) - 1 ≡ length s = omega arith in rw e (front b s)
 
 -- ── zeros at the end ──
 end-zero : (s : List ℕ) → trim_end (s ++ 48 ∷ []) ≡ trim_end s

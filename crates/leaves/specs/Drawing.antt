@@ -1,5 +1,6 @@
 -- The drawing's sheet and scale as the leaves answer them.
-use Rattle.std.specs.Prelude.{ℕ, ◌-◌, Bool, cond, ◌&&◌, List, [], ◌∷◌, eqb, ltb, pos, get_or, Option, Some, None, Result, Ok, Err}
+use Rattle.std.specs.Prelude.{ℕ, ◌-◌, Bool, cond, ◌&&◌, List, ltb, pos, get_or, Option, Some, None, Result, Ok, Err}
+use Rattle.std.specs.List.{find}
 use Rattle.rules.specs.Base.{same, within}
 use Rattle.rules.specs.RefusalNumbers.{Got, got, bad}
 use Rattle.rules.specs.Numbers.{show_count}
@@ -20,18 +21,22 @@ ratio_of (got v) = Ok (record { p = number_at v 0; q = number_at v 1 })
 ratio_of (bad n) = Err n
 
 -- ── what they are made of ──
--- the first of the numbers that a text writes, 0 if none
-abbrev pub multiplier_in : List ℕ → List ℕ → ℕ
-multiplier_in s [] = 0
-multiplier_in s (n ∷ ns) = cond (same s (show_count 2 n)) n (multiplier_in s ns)
+-- the first of the numbers that a text writes
+abbrev pub multiplier_in : List ℕ → List ℕ → Option ℕ
+multiplier_in s ns = find (λ n. same s (show_count 2 n)) ns
+
+-- by n and the last byte, `0` to the greatest
+abbrev pub numbered_sheet : ℕ → ℕ → ℕ → Option SheetSize
+numbered_sheet n most d = cond (within 48 most d) (Some (record { multiplier = n; number = d - 48 })) None
 
 -- by the last byte: A0 to A4
 unfoldable pub plain_sheet : ℕ → Option SheetSize
-plain_sheet d = cond (within 48 52 d) (Some (record { multiplier = 1; number = d - 48 })) None
+plain_sheet d = numbered_sheet 1 52 d
 
--- by n and the last byte: A0, A1
-unfoldable pub large_sheet : ℕ → ℕ → Option SheetSize
-large_sheet n d = cond (eqb n 0) None (cond (within 48 49 d) (Some (record { multiplier = n; number = d - 48 })) None)
+-- by n, where there is one, and the last byte: A0, A1
+unfoldable pub large_sheet : Option ℕ → ℕ → Option SheetSize
+large_sheet None d = None
+large_sheet (Some n) d = numbered_sheet n 49 d
 
 -- "counts 1 to 99,999"
 abbrev pub in_scale : ℕ → Bool

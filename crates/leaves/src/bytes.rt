@@ -26,14 +26,7 @@ fn same_bytes(a: &[u8], b: &[u8]) -> bool
     requires { length a.now ≡ length b.now }
     ensures { result ≡ same a.now b.now }
 {
-    let mut i = 0;
-    while i < a.len() {
-        if a[i] != b[i] {
-            return false;
-        }
-        i += 1;
-    }
-    true
+    a == b
 }
 
 // Four to eight bytes: the first four and the last four are all of them, some of them twice.
@@ -44,10 +37,7 @@ fn same_halves(a: &[u8], b: &[u8]) -> bool
     ensures { result ≡ same a.now b.now }
 {
     let last = a.len() - 4;
-    if half(a, last) != half(b, last) {
-        return false;
-    }
-    half(a, 0) == half(b, 0)
+    half(a, last) == half(b, last) && half(a, 0) == half(b, 0)
 }
 
 // Eight bytes and more: the last eight first, as names that are counted differ there. The words before them may reach into them.
@@ -97,62 +87,39 @@ pub fn spells(part: &[u8], fixed: &[u8]) -> bool
     if part.len() < 8 {
         return same_bytes(part, fixed);
     }
-    if word(part, 0) != word(fixed, 0) {
-        return false;
-    }
-    same_bytes(&part[8..], &fixed[8..])
+    word(part, 0) == word(fixed, 0) && same_bytes(&part[8..], &fixed[8..])
 }
 
 // Where the first b stands, or the length.
 pub fn find(s: &[u8], b: u8) -> usize
     ensures { result ≡ length (up_to b s.now) }
 {
-    let mut i = 0;
-    while i < s.len() {
-        if s[i] == b {
-            return i;
-        }
-        i += 1;
-    }
-    i
+    s.iter().position(|x| *x == b).unwrap_or(s.len())
 }
 
 // lo to hi
 pub fn within(lo: u64, hi: u64, n: u64) -> bool
     ensures { result ≡ within lo hi n }
 {
-    if n < lo {
-        return false;
-    }
-    n <= hi
-}
-
-// one of two runs of bytes
-fn in_either(lo: u64, hi: u64, from: u64, to: u64, n: u64) -> bool
-    ensures { result ≡ (within lo hi n || within from to n) }
-{
-    if within(lo, hi, n) {
-        return true;
-    }
-    within(from, to, n)
+    lo <= n && n <= hi
 }
 
 fn single_byte(b: u8) -> bool
     ensures { result ≡ single_byte b }
 {
-    in_either(32, 126, 161, 223, b as u64)
+    matches!(b, 0x20..=0x7e | 0xa1..=0xdf)
 }
 
 fn lead_byte(b: u8) -> bool
     ensures { result ≡ lead_byte b }
 {
-    in_either(129, 159, 224, 252, b as u64)
+    matches!(b, 0x81..=0x9f | 0xe0..=0xfc)
 }
 
 fn trail_byte(b: u8) -> bool
     ensures { result ≡ trail_byte b }
 {
-    in_either(64, 126, 128, 252, b as u64)
+    matches!(b, 0x40..=0x7e | 0x80..=0xfc)
 }
 
 // b is allowed where it stands: behind a lead only a trail.
@@ -162,20 +129,14 @@ fn may_stand(lead: bool, b: u8) -> bool
     if lead {
         return trail_byte(b);
     }
-    if single_byte(b) {
-        return true;
-    }
-    lead_byte(b)
+    single_byte(b) || lead_byte(b)
 }
 
 // b starts a pair: a lead that is not itself the trail of one.
 fn starts_pair(lead: bool, b: u8) -> bool
     ensures { result ≡ starts_pair lead b }
 {
-    if lead {
-        return false;
-    }
-    lead_byte(b)
+    !lead && lead_byte(b)
 }
 
 // Only bytes that document 01 allows, and every lead has its trail.
@@ -183,14 +144,11 @@ pub fn allowed(s: &[u8]) -> bool
     ensures { result ≡ allowed s.now }
 {
     let mut lead = false;
-    let mut i = 0;
-    while i < s.len() {
-        let b = s[i];
+    for &b in s {
         if !may_stand(lead, b) {
             return false;
         }
         lead = starts_pair(lead, b);
-        i += 1;
     }
     !lead
 }
@@ -198,139 +156,69 @@ pub fn allowed(s: &[u8]) -> bool
 pub(crate) fn digit(b: u8) -> bool
     ensures { result ≡ is_digit b }
 {
-    within(48, 57, b as u64)
+    b.is_ascii_digit()
 }
 
 // "a-z read as A-Z"
 pub fn capital(b: u8) -> u8
     ensures { result ≡ capital b }
 {
-    if b < 97 {
-        return b;
-    }
-    if 122 < b {
-        return b;
-    }
-    b - 32
+    b.to_ascii_uppercase()
 }
 
 fn letter(b: u8) -> bool
     ensures { result ≡ is_letter b }
 {
-    in_either(65, 90, 97, 122, b as u64)
+    b.is_ascii_alphabetic()
 }
 
 fn of_word(b: u8) -> bool
     ensures { result ≡ byte_in letters_and_digits b }
 {
-    if letter(b) {
-        return true;
-    }
-    digit(b)
+    letter(b) || digit(b)
 }
 
 fn of_telephone(b: u8) -> bool
     ensures { result ≡ byte_in telephone b }
 {
-    if digit(b) {
-        return true;
-    }
-    if b == b'-' {
-        return true;
-    }
-    if b == b'(' {
-        return true;
-    }
-    b == b')'
+    digit(b) || matches!(b, b'-' | b'(' | b')')
 }
 
 fn of_circuit(b: u8) -> bool
     ensures { result ≡ byte_in circuit_bytes b }
 {
-    if letter(b) {
-        return true;
-    }
-    if digit(b) {
-        return true;
-    }
-    if b == b'-' {
-        return true;
-    }
-    b == b'.'
+    letter(b) || digit(b) || matches!(b, b'-' | b'.')
 }
 
 // b is of the set with this number: 1 ASCII, 2 letters and digits, 3 telephone, 4 circuit; any other number: every byte.
 fn is_in(set: u8, b: u8) -> bool
     ensures { result ≡ byte_in (bytes_of set) b }
 {
-    if set == 1 {
-        return within(32, 126, b as u64);
+    match set {
+        1 => matches!(b, 0x20..=0x7e),
+        2 => of_word(b),
+        3 => of_telephone(b),
+        4 => of_circuit(b),
+        _ => true,
     }
-    if set == 2 {
-        return of_word(b);
-    }
-    if set == 3 {
-        return of_telephone(b);
-    }
-    if set == 4 {
-        return of_circuit(b);
-    }
-    true
 }
 
 // Every byte is of the set.
 pub fn all_in(s: &[u8], set: u8) -> bool
     ensures { result ≡ all (byte_in (bytes_of set)) s.now }
 {
-    let mut i = 0;
-    while i < s.len() {
-        if !is_in(set, s[i]) {
-            return false;
-        }
-        i += 1;
-    }
-    true
+    s.iter().all(|b| is_in(set, *b))
 }
 
 fn layer_letter(b: u8) -> bool
     ensures { result ≡ is_layer_letter b }
 {
-    if b == b'B' {
-        return true;
-    }
-    if b == b'A' {
-        return true;
-    }
-    if b == b'E' {
-        return true;
-    }
-    if b == b'P' {
-        return true;
-    }
-    if b == b'M' {
-        return true;
-    }
-    false
+    matches!(b, b'B' | b'A' | b'E' | b'P' | b'M')
 }
 
 // A layer's id: a layer's letter, `_` and three digits.
 pub fn is_layer_id(s: &[u8]) -> bool
     ensures { result ≡ is_layer_id s.now }
 {
-    if s.len() != 5 {
-        return false;
-    }
-    if !layer_letter(s[0]) {
-        return false;
-    }
-    if s[1] != b'_' {
-        return false;
-    }
-    if !digit(s[2]) {
-        return false;
-    }
-    if !digit(s[3]) {
-        return false;
-    }
-    digit(s[4])
+    s.len() == 5 && layer_letter(s[0]) && s[1] == b'_' && digit(s[2]) && digit(s[3]) && digit(s[4])
 }

@@ -12,14 +12,11 @@ fn digits_from(s: &[u8]) -> Option<u64>
     ensures { result ≡ run_from 0 s.now }
 {
     let mut v: u64 = 0;
-    let mut i = 0;
-    while i < s.len() {
-        let b = s[i];
+    for &b in s {
         if !digit(b) {
             return None;
         }
-        v = v * 10 + (b as u64 - 48);
-        i += 1;
+        v = v * 10 + (b - b'0') as u64;
     }
     Some(v)
 }
@@ -29,10 +26,7 @@ fn digits(s: &[u8], least: usize, most: usize) -> Option<u64>
     requires { most ≤ 10 }
     ensures { result ≡ read_run least most s.now }
 {
-    if s.len() < least {
-        return None;
-    }
-    if most < s.len() {
+    if s.len() < least || most < s.len() {
         return None;
     }
     digits_from(s)
@@ -65,52 +59,27 @@ pub fn fixed(s: &[u8], w: u8) -> Option<u64>
 fn is_day(n: u64) -> bool
     ensures { result ≡ is_day n }
 {
-    if within(1, 12, n / 100 % 100) {
-        return within(1, 31, n % 100);
-    }
-    false
+    within(1, 12, n / 100 % 100) && within(1, 31, n % 100)
 }
 
 fn is_clock(n: u64) -> bool
     ensures { result ≡ is_clock n }
 {
-    let hours = n / 10000;
-    if 23 < hours {
-        return false;
-    }
-    let minutes = n / 100 % 100;
-    if 59 < minutes {
-        return false;
-    }
-    n % 100 <= 59
+    n / 10000 <= 23 && n / 100 % 100 <= 59 && n % 100 <= 59
 }
 
 // A date: eight digits.
 pub fn day(s: &[u8]) -> Option<u64>
     ensures { result ≡ read_day s.now }
 {
-    let d = digits(s, 8, 8);
-    let Some(n) = d else {
-        return None;
-    };
-    if is_day(n) {
-        return Some(n);
-    }
-    None
+    digits(s, 8, 8).filter(|n| is_day(*n))
 }
 
 // A time: six digits.
 pub fn clock(s: &[u8]) -> Option<u64>
     ensures { result ≡ read_clock s.now }
 {
-    let d = digits(s, 6, 6);
-    let Some(n) = d else {
-        return None;
-    };
-    if is_clock(n) {
-        return Some(n);
-    }
-    None
+    digits(s, 6, 6).filter(|n| is_clock(*n))
 }
 
 // A decimal: an optional `-`, 1 to 7 digits, optionally `.` and 1 to 4 digits.

@@ -7,81 +7,55 @@ ghost use Rattle.leaves.specs.Pieces.{decimal_piece, sign_length, size_piece, Ru
 use crate::bytes::{digit, find};
 use crate::{Decimal, DecimalPiece};
 
-// A run of digits: the number, and where it ends.
+// A number as read, and where it ends: a run of digits, or a decimal without its sign in ten-thousandths.
 #[derive(Clone, Copy)]
-struct RunEnd {
+struct NumberEnd {
     value: u64,
     end: usize,
-}
-
-// A decimal without its sign, in ten-thousandths, and where it ends.
-#[derive(Clone, Copy)]
-struct SizeEnd {
-    value: u64,
-    end: usize,
-}
-
-// where a run from at on ends at the latest
-fn latest(len: usize, at: usize, most: usize) -> usize
-    requires { at ≤ len }
-    ensures { (at ≤ result) × (result ≤ len) × (result ≤ at + most) × (result < at + most → len ≤ result) }
-{
-    if len - at < most {
-        return len;
-    }
-    at + most
 }
 
 // The digits from at on, no more than `most`.
-fn run(s: &[u8], at: usize, most: usize) -> RunEnd
+fn run(s: &[u8], at: usize, most: usize) -> NumberEnd
     requires { (at ≤ length s.now) × (most ≤ 8) }
     ensures { RunRead s.now at most result }
 {
-    let last = latest(s.len(), at, most);
+    let last = at + most.min(s.len() - at);
     let mut v: u64 = 0;
-    let mut i = at;
-    while i < last {
+    for i in at..last {
         let b = s[i];
         if !digit(b) {
-            return RunEnd { value: v, end: i };
+            return NumberEnd { value: v, end: i };
         }
-        v = v * 10 + (b as u64 - 48);
-        i += 1;
+        v = v * 10 + (b - b'0') as u64;
     }
-    RunEnd { value: v, end: i }
+    NumberEnd {
+        value: v,
+        end: last,
+    }
 }
 
 // 10 ^ (4 - n): what the last of n digits behind the point counts, in ten-thousandths.
 fn unit(n: usize) -> u64
     ensures { result ≡ 10 ^ (4 - n) }
 {
-    if n == 0 {
-        return 10000;
+    match n {
+        0 => 10000,
+        1 => 1000,
+        2 => 100,
+        3 => 10,
+        _ => 1,
     }
-    if n == 1 {
-        return 1000;
-    }
-    if n == 2 {
-        return 100;
-    }
-    if n == 3 {
-        return 10;
-    }
-    1
 }
 
 // A comma stands at i, or nothing more.
 fn ends(s: &[u8], i: usize) -> bool
     ensures { result ≡ is_nil (up_to 44 (drop i s.now)) }
 {
-    if s.len() <= i {
-        return true;
-    }
-    s[i] == b','
+    s.len() <= i || s[i] == b','
 }
 
 // The decimal without a sign that stands from at to a comma or the end.
-fn size_piece(s: &[u8], at: usize) -> Option<SizeEnd>
+fn size_piece(s: &[u8], at: usize) -> Option<NumberEnd>
     requires { at ≤ length s.now }
     ensures { result ≡ size_piece at s.now }
 {
@@ -92,7 +66,7 @@ fn size_piece(s: &[u8], at: usize) -> Option<SizeEnd>
         return None;
     }
     if ends(s, i) {
-        return Some(SizeEnd {
+        return Some(NumberEnd {
             value: v * 10000,
             end: i,
         });
@@ -110,7 +84,7 @@ fn size_piece(s: &[u8], at: usize) -> Option<SizeEnd>
     if !ends(s, j) {
         return None;
     }
-    Some(SizeEnd {
+    Some(NumberEnd {
         value: v * 10000 + f * unit(j - k),
         end: j,
     })
@@ -120,13 +94,7 @@ fn size_piece(s: &[u8], at: usize) -> Option<SizeEnd>
 fn behind_sign(s: &[u8]) -> usize
     ensures { result ≡ sign_length s.now }
 {
-    if s.len() == 0 {
-        return 0;
-    }
-    if s[0] == b'-' {
-        return 1;
-    }
-    0
+    usize::from(s.starts_with(b"-"))
 }
 
 // The decimal before the first comma, and where it ends, in one pass. What is no decimal has its end searched for.
@@ -134,23 +102,16 @@ pub fn decimal_piece(s: &[u8]) -> DecimalPiece
     ensures { result ≡ decimal_piece s.now }
 {
     let at = behind_sign(s);
-    let size = size_piece(s, at);
-    let Some(p) = size else {
+    let Some(p) = size_piece(s, at) else {
         return DecimalPiece {
             reading: None,
             end: find(s, b','),
         };
     };
     let z = p.value as i64;
-    let e = p.end;
-    if at == 1 {
-        return DecimalPiece {
-            reading: Some(Decimal { value: -z }),
-            end: e,
-        };
-    }
+    let value = if at == 1 { -z } else { z };
     DecimalPiece {
-        reading: Some(Decimal { value: z }),
-        end: e,
+        reading: Some(Decimal { value }),
+        end: p.end,
     }
 }

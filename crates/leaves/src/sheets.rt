@@ -3,7 +3,7 @@ ghost use Rattle.std.specs.Prelude.{◌≡◌};
 ghost use Rattle.rules.specs.Base.{same};
 ghost use Rattle.rules.specs.Numbers.{show_count};
 ghost use Rattle.rules.specs.Values.{multipliers, sheets, find_sheet, read_ratio};
-ghost use Rattle.leaves.specs.Drawing.{sheet_of, multiplier_in, plain_sheet, large_sheet, ratio_of, one_count, two_counts};
+ghost use Rattle.leaves.specs.Drawing.{sheet_of, multiplier_in, numbered_sheet, ratio_of, one_count, two_counts};
 
 use crate::bytes::{find, within};
 use crate::numbers::count;
@@ -17,63 +17,29 @@ fn is_number(s: &[u8], n: u8) -> bool
     let tens = 48 + n / 10 % 10;
     let last = 48 + n % 10;
     if tens == 48 {
-        if s.len() != 1 {
-            return false;
-        }
-        return s[0] == last;
+        return s == [last].as_slice();
     }
-    if s.len() != 2 {
-        return false;
-    }
-    if s[0] != tens {
-        return false;
-    }
-    s[1] == last
+    s == [tens, last].as_slice()
 }
 
-// The multiplier that the text writes, 0 if none.
-fn multiplier(s: &[u8]) -> u8
+// The multiplier that the text writes.
+fn multiplier(s: &[u8]) -> Option<u8>
     ensures { result ≡ multiplier_in s.now multipliers }
 {
-    let table = SHEET_MULTIPLIERS;
-    let mut i = 0;
-    while i < 8 {
-        let n = table[i];
-        if is_number(s, n) {
-            return n;
-        }
-        i += 1;
-    }
-    0
+    SHEET_MULTIPLIERS.iter().copied().find(|n| is_number(s, *n))
 }
 
-// A0 to A4, by the last byte
-fn plain(d: u8) -> Option<SheetSize>
-    ensures { result ≡ plain_sheet d }
+// A sheet by its n and the last byte of its name, which is `0` to `most`
+fn numbered(multiplier: u8, most: u8, d: u8) -> Option<SheetSize>
+    ensures { result ≡ numbered_sheet multiplier most d }
 {
-    if within(48, 52, d as u64) {
-        return Some(SheetSize {
-            multiplier: 1,
-            number: d - 48,
-        });
-    }
-    None
-}
-
-// n then A0 or A1, by n and the last byte
-fn large(n: u8, d: u8) -> Option<SheetSize>
-    ensures { result ≡ large_sheet n d }
-{
-    if n == 0 {
+    if d < b'0' || most < d {
         return None;
     }
-    if within(48, 49, d as u64) {
-        return Some(SheetSize {
-            multiplier: n,
-            number: d - 48,
-        });
-    }
-    None
+    Some(SheetSize {
+        multiplier,
+        number: d - b'0',
+    })
 }
 
 // A0 to A4, or n then A0 or A1.
@@ -89,18 +55,17 @@ pub fn sheet(s: &[u8]) -> Option<SheetSize>
     }
     let d = s[e + 1];
     if e == 0 {
-        return plain(d);
+        return numbered(1, b'4', d);
     }
-    large(multiplier(&s[..e]), d)
+    numbered(multiplier(&s[..e])?, b'1', d)
 }
 
 // p alone
+#[tactic(auto, unfolding(crate::specs::Drawing::one_count))]
 fn one_count(a: Option<u64>) -> Result<Scale, u8>
     ensures { result ≡ one_count a }
 {
-    let Some(p) = a else {
-        return Err(10);
-    };
+    let p = a.ok_or(10)?;
     if within(1, 99999, p) {
         return Ok(Scale { p: p as u32, q: 1 });
     }
@@ -108,22 +73,13 @@ fn one_count(a: Option<u64>) -> Result<Scale, u8>
 }
 
 // p and q
+#[tactic(auto, unfolding(crate::specs::Drawing::two_counts))]
 fn two_counts(a: Option<u64>, b: Option<u64>) -> Result<Scale, u8>
     ensures { result ≡ two_counts a b }
 {
-    let Some(p) = a else {
-        return Err(10);
-    };
-    let Some(q) = b else {
-        return Err(10);
-    };
-    if !within(1, 99999, p) {
-        return Err(11);
-    }
-    if !within(1, 99999, q) {
-        return Err(11);
-    }
-    if p < q {
+    let p = a.ok_or(10)?;
+    let q = b.ok_or(10)?;
+    if within(1, 99999, p) && within(1, 99999, q) && p < q {
         return Ok(Scale {
             p: p as u32,
             q: q as u32,

@@ -32,8 +32,5 @@ pub fn text_rule(key: u8) -> TextRule
 pub fn fits(c: &[u8], most: u8, set: u8) -> bool
     ensures { result ≡ (all (byte_in (bytes_of set)) c.now && leb (length c.now) most) }
 {
-    if (most as usize) < c.len() {
-        return false;
-    }
-    all_in(c, set)
+    c.len() <= most as usize && all_in(c, set)
 }

@@ -9,11 +9,7 @@ use crate::NoRoom;
 pub fn clear(out: &mut [u8])
     ensures { out.new ≡ replicate (length out.old) 0 }
 {
-    let mut cleared = 0;
-    while cleared < out.len() {
-        out[cleared] = 0;
-        cleared += 1;
-    }
+    out.fill(0);
 }
 
 // A text at the front of out, where it fits; where it does not, out stays as it is.
@@ -23,12 +19,8 @@ pub fn put(text: &[u8], out: &mut [u8]) -> Result<usize, NoRoom>
     if out.len() < text.len() {
         return Err(NoRoom);
     }
-    let mut i = 0;
-    while i < text.len() {
-        out[i] = text[i];
-        i += 1;
-    }
-    Ok(i)
+    out[..text.len()].copy_from_slice(text);
+    Ok(text.len())
 }
 
 // One text behind the other, where both fit. The second is written first, so that nothing is written where there is no room for both.
@@ -39,11 +31,8 @@ fn put_both(first: &[u8], second: &[u8], out: &mut [u8]) -> Result<usize, NoRoom
     if out.len() < n {
         return Err(NoRoom);
     }
-    let rest = put(second, &mut out[n..]);
-    let Ok(m) = rest else {
-        return Err(NoRoom);
-    };
-    let _ = put(first, out);
+    let m = put(second, &mut out[n..])?;
+    out[..n].copy_from_slice(first);
     Ok(n + m)
 }
 
@@ -52,10 +41,8 @@ fn fill_digits(n: u64, out: &mut [u8])
     ensures { out.new ≡ fixed (length out.old) n }
 {
     let mut left = n;
-    let mut i = out.len();
-    while 0 < i {
-        i -= 1;
-        out[i] = 48 + (left % 10) as u8;
+    for i in (0..out.len()).rev() {
+        out[i] = b'0' + (left % 10) as u8;
         left /= 10;
     }
 }
@@ -64,14 +51,8 @@ fn fill_digits(n: u64, out: &mut [u8])
 fn needless(s: &[u8]) -> usize
     ensures { (result ≤ length s.now) × (drop result s.now ≡ trim s.now) }
 {
-    let mut i = 0;
-    while i + 1 < s.len() {
-        if s[i] != 48 {
-            return i;
-        }
-        i += 1;
-    }
-    i
+    let most = s.len().saturating_sub(1);
+    s[..most].iter().position(|b| *b != b'0').unwrap_or(most)
 }
 
 // The digits of s without needless zeros in front.
@@ -95,10 +76,7 @@ pub fn put_count(n: u64, out: &mut [u8]) -> Result<usize, NoRoom>
 fn at_most_eight(w: u8) -> usize
     ensures { result ≡ width w }
 {
-    if 8 < w {
-        return 8;
-    }
-    w as usize
+    w.min(8) as usize
 }
 
 // Exactly w digits. Document 01 asks for no more than eight: a greater w is as eight.
@@ -117,14 +95,12 @@ pub fn put_fixed(n: u64, w: u8, out: &mut [u8]) -> Result<usize, NoRoom>
 fn needed(s: &[u8]) -> usize
     ensures { (result ≤ length s.now) × (take result s.now ≡ trim_end s.now) }
 {
-    let mut i = s.len();
-    while 0 < i {
-        if s[i - 1] != 48 {
-            return i;
+    for i in (0..s.len()).rev() {
+        if s[i] != b'0' {
+            return i + 1;
         }
-        i -= 1;
     }
-    i
+    0
 }
 
 // A size in ten-thousandths, with all its digits, behind one place for a sign.
@@ -155,25 +131,22 @@ pub fn put_size(m: u64, out: &mut [u8]) -> Result<usize, NoRoom>
 fn put_minus(m: u64, out: &mut [u8]) -> Result<usize, NoRoom>
     ensures { Puts (45 ∷ show_size m) out.old out.new result }
 {
-    if out.len() == 0 {
+    if out.is_empty() {
         return Err(NoRoom);
     }
-    let size = put_size(m, &mut out[1..]);
-    let Ok(n) = size else {
-        return Err(NoRoom);
-    };
+    let n = put_size(m, &mut out[1..])?;
     out[0] = b'-';
     Ok(n + 1)
 }
 
-// A decimal without needless zeros. One is added before the sign is turned, for the least of all numbers.
+// A decimal without needless zeros.
 pub fn put_decimal(z: i64, out: &mut [u8]) -> Result<usize, NoRoom>
     ensures { Puts (show_decimal z) out.old out.new result }
 {
     if z < 0 {
-        return put_minus(-(z + 1) as u64 + 1, out);
+        return put_minus(z.unsigned_abs(), out);
     }
-    put_size(z as u64, out)
+    put_size(z.unsigned_abs(), out)
 }
 
 // A sheet: its n, if it is not 1, then `A` and its number.

@@ -1,34 +1,12 @@
-use Prim.Native.Nat.{◌≤◌, ◌-◌, ◌+◌}
-use mathlib.Core.Path.{◌≡◌, ap}
-use native.Mathlib.Omega.{arith}
-use lib.ListN.{length, drop}
-use Rattle.leaves.specs.Bytes.{up_to}
-use Rattle.leaves.proofs.Scan.{up_to_hit, up_to_miss, up_to-end}
+use Rattle.std.proofs.Common.{◌≡◌, ◌∙◌, refl, rules, tests, eqb}
+use Rattle.std.specs.List.{position}
+use Rattle.std.proofs.lemmas.Iterator.{YieldsList-from_slice}
+use Rattle.std.proofs.lemmas.Iterator.Search.{position_from_yields_List}
+use Rattle.leaves.proofs.Scan.{first_place, up_to_place}
 use Rattle.leaves.proofs.bytes.find.Goals as goal
-
-pub loop-i-init : goal.loop-i-init
-loop-i-init c = omega arith
-
-pub bounds-s-i : goal.bounds-s-i
-bounds-s-i c = omega arith
-
-pub returns-then-s-i : goal.returns-then-s-i
-returns-then-s-i c =
-    let a = c.args in
-    omega (arith, ap length (up_to_hit a.b a.s.now c.loop-i.i c.loop-i-test.true c.if-s-i.true))
-
-pub overflow_add-i : goal.overflow_add-i
-overflow_add-i c = omega arith
-
-pub loop-i-smaller : goal.loop-i-smaller
-loop-i-smaller c = omega arith
-
-pub loop-i-preserved : goal.loop-i-preserved
-loop-i-preserved c =
-    let a = c.args in
-    omega (arith, ap length (up_to_miss a.b a.s.now c.loop-i.i c.loop-i-test.true c.if-s-i.false))
 
 pub returns : goal.returns
 returns c =
-    let a = c.args in
-    omega (arith, ap length (up_to-end a.b a.s.now c.loop-i.i c.loop-i-test.false))
+    let s = c.args.s.now in
+    let found : c.position.result ≡ position (λ x. eqb x c.args.b) s = position_from_yields_List (λ x. eqb x c.args.b) _ _ c.position.result c.position.ensures.ran (YieldsList-from_slice s c.iter.ensures.rest) (λ x b q k. search (rules, tests)) in
+    c.unwrap_or.ensures ∙ first_place (λ x. eqb x c.args.b) s c.position.result _ found refl ∙ up_to_place c.args.b s

@@ -1,7 +1,7 @@
 use Prim.Native.Nat.{◌-◌}
-use mathlib.Core.Path.{◌≡◌, refl, sym, ◌∙◌}
+use mathlib.Core.Path.{refl, sym, ◌∙◌}
 use native.Mathlib.Omega.{arith}
-use lib.ListN.{length, take}
+use lib.ListN.{length}
 use Rattle.leaves.specs.Bytes.{word}
 use Rattle.leaves.proofs.Words.{Fit, word_same, covered, further, same_no, same_yes}
 use Rattle.leaves.proofs.bytes.same_words.Goals as goal

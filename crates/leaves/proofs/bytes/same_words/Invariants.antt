@@ -1,9 +1,6 @@
 use Prim.Native.Nat.{◌-◌}
-use mathlib.Core.Path.{◌≡◌, refl, sym, ◌∙◌}
-use native.Mathlib.Omega.{arith}
-use lib.ListN.{length, take}
-use Rattle.leaves.specs.Bytes.{word}
-use Rattle.leaves.proofs.Words.{Fit, word_same, covered, further, same_no, same_yes}
+use mathlib.Core.Path.{◌≡◌}
+use lib.ListN.{take}
 use Rattle.leaves.proofs.bytes.same_words.Given as goal
 
 abbrev pub invariant-loop-i : goal.invariant-loop-i

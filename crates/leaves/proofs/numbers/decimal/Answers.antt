@@ -7,11 +7,7 @@ use Rattle.leaves.specs.Readings.{reading_of}
 use Rattle.leaves.proofs.Cuts.{up_to-none}
 use Rattle.leaves.proofs.Commas.{comma-decimal}
 use Rattle.leaves.proofs.Bounds.{piece-reading, piece-end}
-use borrow.Author.Rules.{rules}
 use Rattle.leaves.proofs.numbers.decimal.Goals as goal
-
-pub decimal_piece-p-requires : goal.decimal_piece-p-requires
-decimal_piece-p-requires c = search rules
 
 pub returns-then-p-s : goal.returns-then-p-s
 returns-then-p-s c =

@@ -1,14 +1,10 @@
-use mathlib.Core.Path.{sym}
+use Rattle.std.proofs.Common.{rules}
 use Rattle.leaves.proofs.Scan.{up_to-end}
 use Rattle.leaves.proofs.Commas.{ends_at}
-use borrow.Author.Rules.{rules}
 use Rattle.leaves.proofs.pieces.ends.Goals as goal
 
 pub returns-then-s-i : goal.returns-then-s-i
-returns-then-s-i c = sym (rw (up_to-end 44 _ _ c.if-s-i.true))
+returns-then-s-i c = rw (up_to-end 44 c.args.s.now c.args.i c.if-s-i.true) (search rules)
 
-pub bounds-s-i : goal.bounds-s-i
-bounds-s-i c = search rules
-
-pub returns : goal.returns
-returns c = ends_at _ _ c.if-s-i.false
+pub returns-else-s-i : goal.returns-else-s-i
+returns-else-s-i c = ends_at _ _ c.if-s-i.false

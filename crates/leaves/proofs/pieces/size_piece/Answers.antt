@@ -4,17 +4,10 @@ use lib.ListN.{drop}
 use Rattle.leaves.specs.Bytes.{up_to}
 use borrow.Author.Tests.{not-true, not-false}
 use Rattle.leaves.proofs.Commas.{run_small, no-digit-first, whole-alone, whole-broken, no-digit-behind, fraction-broken, both-parts, goes_on, size-was, size-some}
-use borrow.Author.Rules.{rules}
 use Rattle.leaves.proofs.pieces.size_piece.Goals as goal
-
-pub run-whole-requires : goal.run-whole-requires
-run-whole-requires c = search rules
 
 pub returns-then-i-at : goal.returns-then-i-at
 returns-then-i-at c = no-digit-first _ _ _ _ c.run-whole.ensures c.if-i-at.true
-
-pub ends-requires : goal.ends-requires
-ends-requires c = search rules
 
 pub overflow_mul-result : goal.overflow_mul-result
 overflow_mul-result c = record { fits = omega (arith, run_small _ _ _ _ _ c.run-whole.ensures.read (omega arith)) }
@@ -28,29 +21,17 @@ bounds-s-i c = goes_on c.args.s.now c.run-whole.result.end (sym c.ends.ensures �
 pub returns-then-s-i-ne46 : goal.returns-then-s-i-ne46
 returns-then-s-i-ne46 c = whole-broken _ _ _ _ c.run-whole.ensures (sym c.ends.ensures ∙ c.if-ends.false) c.if-s-i-ne46.true
 
-pub overflow_add-k : goal.overflow_add-k
-overflow_add-k c = search rules
-
 pub run-fraction-requires : goal.run-fraction-requires
 run-fraction-requires c = (omega (arith, goes_on c.args.s.now c.run-whole.result.end (sym c.ends.ensures ∙ c.if-ends.false)), omega arith)
 
 pub returns-then-j-k : goal.returns-then-j-k
 returns-then-j-k c = no-digit-behind _ _ _ _ c.run-whole.ensures (sym c.ends.ensures ∙ c.if-ends.false) c.if-s-i-ne46.false _ _ c.run-fraction.ensures c.if-j-k.true
 
-pub ends-requires-2 : goal.ends-requires-2
-ends-requires-2 c = search rules
-
 pub returns-then-not-ends : goal.returns-then-not-ends
 returns-then-not-ends c = fraction-broken _ _ _ _ c.run-whole.ensures (sym c.ends.ensures ∙ c.if-ends.false) c.if-s-i-ne46.false _ _ c.run-fraction.ensures (sym c.ends-2.ensures ∙ not-true _ c.if-not-ends.true-raw)
 
 pub overflow_mul-result-2 : goal.overflow_mul-result-2
 overflow_mul-result-2 c = record { fits = omega (arith, run_small _ _ _ _ _ c.run-whole.ensures.read (omega arith)) }
-
-pub overflow_sub-j : goal.overflow_sub-j
-overflow_sub-j c = search rules
-
-pub unit-requires : goal.unit-requires
-unit-requires c = search rules
 
 pub returns : goal.returns
 returns c = both-parts _ _ _ _ c.run-whole.ensures (sym c.ends.ensures ∙ c.if-ends.false) c.if-s-i-ne46.false _ _ c.run-fraction.ensures c.if-i-at.false c.if-j-k.false (sym c.ends-2.ensures ∙ not-false _ c.if-not-ends.false-raw) c.unit.result c.unit.ensures

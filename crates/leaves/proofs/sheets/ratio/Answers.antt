@@ -7,17 +7,7 @@ use Rattle.leaves.specs.Bytes.{up_to}
 use Rattle.leaves.specs.Drawing.{one_count}
 use Rattle.leaves.proofs.Cuts.{up_to-le}
 use Rattle.leaves.proofs.Drawings.{ratio-one, ratio-two}
-use borrow.Author.Rules.{rules}
 use Rattle.leaves.proofs.sheets.ratio.Goals as goal
-
-pub find-e-requires : goal.find-e-requires
-find-e-requires c = search rules
-
-pub count-requires : goal.count-requires
-count-requires c = search rules
-
-pub one_count-requires : goal.one_count-requires
-one_count-requires c = search rules
 
 pub returns-then-e-s : goal.returns-then-e-s
 returns-then-e-s c =
@@ -31,20 +21,11 @@ overflow_add-n c = omega (arith, up_to-le 47 c.args.s.now, c.find-e.ensures)
 pub slice_bounds-count-end : goal.slice_bounds-count-end
 slice_bounds-count-end c = sym (length-take-le _ _ (omega (arith, up_to-le 47 c.args.s.now, c.find-e.ensures)))
 
-pub count-a-requires : goal.count-a-requires
-count-a-requires c = search rules
-
 pub slice_bounds-count-count : goal.slice_bounds-count-count
 slice_bounds-count-count c = omega (arith, up_to-le 47 c.args.s.now, c.find-e.ensures)
 
 pub slice_bounds-count-start : goal.slice_bounds-count-start
 slice_bounds-count-start c = omega (arith, up_to-le 47 c.args.s.now, c.find-e.ensures)
-
-pub count-b-requires : goal.count-b-requires
-count-b-requires c = search rules
-
-pub two_counts-requires : goal.two_counts-requires
-two_counts-requires c = search rules
 
 pub returns : goal.returns
 returns c =

@@ -2,18 +2,11 @@ use mathlib.Core.Path.{sym}
 use lib.ListN.{get_or-eq_default}
 use Rattle.leaves.specs.Texts.{text_rules, no_text}
 use Rattle.leaves.proofs.FreeTexts.{by-columns}
-use borrow.Author.Rules.{rules}
 use Rattle.leaves.proofs.texts.text_rule.Goals as goal
 
 pub returns-then-key-gt12 : goal.returns-then-key-gt12
 unfolding text_rules
 returns-then-key-gt12 c = sym (get_or-eq_default text_rules no_text c.if-key-gt12.true)
-
-pub bounds-limits-k : goal.bounds-limits-k
-bounds-limits-k c = search rules
-
-pub bounds-sets-k : goal.bounds-sets-k
-bounds-sets-k c = search rules
 
 pub returns : goal.returns
 unfolding text_rules

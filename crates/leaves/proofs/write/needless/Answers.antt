@@ -1,39 +1,16 @@
-use Prim.Native.Nat.{◌≤◌, ◌-◌}
-use mathlib.Core.Path.{◌≡◌, refl, sym, ◌∙◌}
-use native.Mathlib.Omega.{arith}
-use lib.ListN.{length, drop}
-use Rattle.rules.specs.Numbers.{trim}
-use Rattle.leaves.proofs.Written.{trim-zero, trim-stop, trim_end_lem}
+use Rattle.std.proofs.Common.{◌≡◌, ◌-◌, ◌∙◌, arith, rules, tests, length, take, length-take}
+use Rattle.std.specs.List.{position, position_or_len}
+use Rattle.std.proofs.lemmas.Iterator.{YieldsList-from_slice}
+use Rattle.std.proofs.lemmas.Iterator.Search.{position_from_yields_List}
+use Rattle.leaves.proofs.Scan.{first_place}
+use Rattle.leaves.proofs.Written.{other_digit, front-other}
 use Rattle.leaves.proofs.write.needless.Goals as goal
-
-pub loop-i-init : goal.loop-i-init
-loop-i-init c = (omega arith, refl)
-
-pub overflow_add-i : goal.overflow_add-i
-overflow_add-i c = omega arith
-
-pub bounds-s-i : goal.bounds-s-i
-bounds-s-i c = omega arith
-
-pub returns-then-s-i-ne48 : goal.returns-then-s-i-ne48
-returns-then-s-i-ne48 c =
-    let s = c.args.s.now in
-    let v = c.loop-i in
-    (v.invariant.0, sym (trim-stop s v.i c.loop-i-test.true c.if-s-i-ne48.true) ∙ v.invariant.1)
-
-pub overflow_add-i-in-loop-i : goal.overflow_add-i-in-loop-i
-overflow_add-i-in-loop-i c = omega arith
-
-pub loop-i-smaller : goal.loop-i-smaller
-loop-i-smaller c = omega arith
-
-pub loop-i-preserved : goal.loop-i-preserved
-loop-i-preserved c =
-    let s = c.args.s.now in
-    let v = c.loop-i in
-    (omega arith, sym (trim-zero s v.i c.loop-i-test.true c.if-s-i-ne48.false) ∙ v.invariant.1)
 
 pub returns : goal.returns
 returns c =
-    let v = c.loop-i in
-    (v.invariant.0, sym (trim_end_lem c.args.s.now v.i c.loop-i-test.false) ∙ v.invariant.1)
+    let s = c.args.s.now in
+    let front = take (length s - 1) s in
+    let found : c.position.result ≡ position other_digit front = position_from_yields_List other_digit _ _ c.position.result c.position.ensures.ran (YieldsList-from_slice front (search rules)) (λ x b q k. search (rules, tests)) in
+    let most : c.saturating_sub-most.result ≡ length front = omega (arith, length-take (length s - 1) s, c.saturating_sub-most.ensures) in
+    let r : c.unwrap_or.result ≡ position_or_len other_digit front = c.unwrap_or.ensures ∙ first_place other_digit front c.position.result _ found most in
+    rw r (search rules, front-other s)

@@ -6,26 +6,10 @@ use lib.Seq.{length-take-le}
 use Rattle.rules.specs.Numbers.{fixed}
 use Rattle.leaves.specs.Writing.{width}
 use Rattle.leaves.proofs.Written.{fits, full, fixed-length}
-use borrow.Author.Rules.{rules}
 use Rattle.leaves.proofs.write.put_fixed.Goals as goal
-
-pub at_most_eight-digits-requires : goal.at_most_eight-digits-requires
-at_most_eight-digits-requires c = search rules
 
 pub returns-then-out-digits : goal.returns-then-out-digits
 returns-then-out-digits c = full (fixed (width c.args.w) c.args.n) c.args.out.now c.at_most_eight-digits.result (fixed-length (width c.args.w) c.args.n ∙ sym c.at_most_eight-digits.ensures) c.if-out-digits.true
-
-pub slice_bounds-fill_digits-end : goal.slice_bounds-fill_digits-end
-slice_bounds-fill_digits-end c = search rules
-
-pub slice_bounds-fill_digits-end-2 : goal.slice_bounds-fill_digits-end-2
-slice_bounds-fill_digits-end-2 c = sym (length-take-le _ _ c.if-out-digits.false)
-
-pub fill_digits-requires : goal.fill_digits-requires
-fill_digits-requires c = search rules
-
-pub shape_of-out : goal.shape_of-out
-shape_of-out c = search rules
 
 pub returns : goal.returns
 returns c =
