@@ -18,9 +18,9 @@ use Rattle.std.specs.Option.{unwrap_or}
 use Rattle.rules.specs.Base.{all, same, within}
 use Rattle.rules.specs.Lines.{allowed_from}
 use Rattle.rules.specs.Numbers.{is_digit}
-use Rattle.rules.specs.Values.{is_layer_id}
+use Rattle.rules.specs.Values.{any_bytes, byte_in, is_layer_id}
 use Rattle.rules.proofs.Chains.{and_false}
-use Rattle.leaves.specs.Bytes.{up_to, may_stand, starts_pair, is_layer_letter}
+use Rattle.leaves.specs.Bytes.{bytes_of, up_to, may_stand, starts_pair, is_layer_letter}
 
 -- the step itself: the list from i on is the byte at i and the list from i + 1 on
 pub at : (s : List ℕ) (i : ℕ) → i < length s → drop i s ≡ get_or s i 0 ∷ drop (i + 1) s
@@ -85,6 +85,14 @@ same_is (x ∷ a) (y ∷ b) = ap (λ (t : Bool). eqb x y && t) (same_is a b)
 pub all_is : (p : ℕ → Bool) (s : List ℕ) → list_all p s ≡ all p s
 all_is p [] = refl
 all_is p (b ∷ s) = ap (λ (t : Bool). p b && t) (all_is p s)
+
+-- a number of no set
+pub all_any : (n : ℕ) (s : List ℕ) → (n ≡ 1 → ⊥) → (n ≡ 2 → ⊥) → (n ≡ 3 → ⊥) → (n ≡ 4 → ⊥) → true ≡ all (byte_in (bytes_of n)) s
+all_any n s h₁ h₂ h₃ h₄ = rw (ne_eqb n 1 h₁, ne_eqb n 2 h₂, ne_eqb n 3 h₃, ne_eqb n 4 h₄) (go s)
+  where
+    go : (s : List ℕ) → true ≡ all (byte_in any_bytes) s
+    go [] = refl
+    go (b ∷ s) = go s
 
 module _ (p : ℕ → Bool) (s : List ℕ) (i : ℕ) where
   pub all-step : i < length s → p (get_or s i 0) ≡ true → all p (drop i s) ≡ all p (drop (i + 1) s)
