@@ -109,7 +109,7 @@ pub fn within(lo: u64, hi: u64, n: u64) -> bool
     lo <= n && n <= hi
 }
 
-// Not `matches!` here and in the two tests below: the processor then branches at each end of a run, which makes `allowed` a third slower.
+// Not `matches!` here and in the two tests below: the processor then branches at each end of a run, and Japanese text takes a quarter longer.
 fn single_byte(b: u8) -> bool
     ensures { result ≡ single_byte b }
 {
@@ -193,7 +193,7 @@ fn of_telephone(b: u8) -> bool
 fn of_circuit(b: u8) -> bool
     ensures { result ≡ byte_in circuit_bytes b }
 {
-    letter(b) || digit(b) || matches!(b, b'-' | b'.')
+    letter(b) || digit(b) || b == b'-' || b == b'.'
 }
 
 // Every byte is of the set with this number: 1 ASCII, 2 letters and digits, 3 telephone, 4 circuit; any other number: every byte.
