@@ -1,7 +1,5 @@
-pub mod ClassDigits
-pub mod Stores
-pub mod MarkScan
+pub mod Alls
+pub mod OwnSearch
 pub mod Raised
-pub mod Partners
 pub mod PutRecords
 pub mod Unique

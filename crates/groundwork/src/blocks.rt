@@ -27,26 +27,14 @@ pub fn no_digits() -> Digits
 pub fn unmark(marks: &mut [bool])
     ensures { marks.new ≡ replicate (length marks.old) false }
 {
-    let mut i = 0;
-    while i < marks.len() {
-        marks[i] = false;
-        i += 1;
-    }
+    marks.fill(false);
 }
 
 // Another block is open.
 pub fn at_block(now: Now, block: u8, part: u8) -> Now
     ensures { result ≡ at_block now block part }
 {
-    Now {
-        block: block,
-        part: part,
-        layered: now.layered,
-        owner: now.owner,
-        records: now.records,
-        figures: now.figures,
-        points: now.points,
-    }
+    Now { block, part, ..now }
 }
 
 // One more figure, and the block around it is open again.
@@ -57,10 +45,8 @@ pub fn figure_done(now: Now) -> Now
     Now {
         block: BLOCK_FIGURES,
         part: 0,
-        layered: now.layered,
-        owner: now.owner,
-        records: now.records,
         figures: now.figures + 1,
         points: 0,
+        ..now
     }
 }

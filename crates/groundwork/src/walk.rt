@@ -13,13 +13,9 @@ pub fn next_line(body: &[u8], v: Volume, p: Pos) -> Seen
     requires { p.line < 4294967295 }
     ensures { result ≡ seen_from body.now v p }
 {
-    let seen = look(body, v.at, p.at, v.number, p.line + 1);
-    let Some(found) = seen else {
-        return Seen {
-            form: LineForm::Ignored,
-            next: p.at,
-            last: true,
-        };
-    };
-    found
+    look(body, v.at, p.at, v.number, p.line + 1).unwrap_or(Seen {
+        form: LineForm::Ignored,
+        next: p.at,
+        last: true,
+    })
 }
