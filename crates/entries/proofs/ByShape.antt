@@ -1,25 +1,25 @@
 -- What a line with a key is: content that opens, by its last two bytes; the form that a row asks for.
 use Rattle.std.specs.Prelude.{Option, Some, None}
-use Prim.Native.Nat.{ℕ, suc, ◌-◌, ◌/◌, ◌%◌, ◌<◌, ◌≤◌}
+use Rattle.std.specs.List.{ends_with}
+use Prim.Native.Nat.{ℕ, suc, ◌-◌, ◌/◌, ◌%◌, ◌≤◌}
 use mathlib.Core.Path.{◌≡◌, refl, ap, sym, ◌∙◌}
-use mathlib.Core.Bool.{Bool, true, false, cond, ◌&&◌, ◌||◌, not}
+use mathlib.Core.Bool.{Bool, true, false, cond, ◌&&◌, not}
 use mathlib.Core.List.{List, [], ◌∷◌}
 use native.Mathlib.Omega.{arith}
-use lib.Dec.{eqb, leb}
-use lib.ListN.{length, get_or, take, drop, length-take}
+use lib.Dec.{eqb}
+use lib.ListN.{length, take, drop, length-take}
 use lib.Seq.{take-take}
-use borrow.Author.Tests.{eqb-true, ne_eqb, le-leb, lt-leb, leb-true}
+use borrow.Author.Tests.{eqb-true, eq-eqb, ne_eqb, eqb_apart}
 use Rattle.rules.specs.Base.{bytes, map_o, same}
-use Rattle.rules.specs.Lines.{equals, Shape, no_content, content, opening, formless, by_stem, stem, bytes_at, has_form}
+use Rattle.rules.specs.Lines.{equals, content, opening, by_stem, stem, bytes_at, has_form}
 use Rattle.rules.specs.Values.{Kind, values, text, word, volume_name, sheet, ratio, serials, wire_serial, symbol_circle, nothing, opens, headed, either, is_free}
-use Rattle.rules.specs.Rows.{is_content, is_empty, is_opener, is_opening, fits, inner_of}
 use Rattle.rules.specs.declared.Span.{Span}
-use Rattle.rules.proofs.Chains.{and_left, and_false, by_cond}
+use Rattle.rules.proofs.Chains.{and_false, by_cond}
 use Rattle.leaves.specs.Bytes.{bytes_of}
 use Rattle.leaves.proofs.Scan.{and_truth}
 use Rattle.tables.specs.Rows.{kind_of, values_of, part_of, parts_of, across_of}
 use Rattle.tables.specs.declared.Row.{Row}
-use Rattle.entries.specs.Shapes.{shape_in, shape_by, sort_of, ends_open}
+use Rattle.entries.specs.Shapes.{shape_in, shape_by, sort_of}
 use Rattle.entries.specs.declared.Shape.{Shape as Placed}
 use Rattle.entries.specs.declared.Shape.TheVariants as P
 
@@ -33,75 +33,52 @@ one_byte b = rw (and_false (eqb b 58))
 no-two : (b d f : ℕ) (s : List ℕ) → same (b ∷ d ∷ f ∷ s) (bytes ":{") ≡ false
 no-two b d f s = rw (and_false (eqb d 123), and_false (eqb b 58))
 
+turned : (a b : ℕ) → eqb a b ≡ eqb b a
+turned a b = go (eqb a b) refl
+  where
+    go : (t : Bool) → eqb a b ≡ t → t ≡ eqb b a
+    go true e = sym (eq-eqb b a (sym (eqb-true a b e)))
+    go false e = sym (ne_eqb b a (λ h. eqb_apart a b e (sym h)))
+
+ends_two : (b d : ℕ) → ends_with eqb (b ∷ d ∷ []) (bytes ":{") ≡ (eqb b 58 && eqb d 123)
+ends_two b d = rw (turned 58 b, turned 123 d, and_truth (eqb d 123))
+
 onto-by : (t : Bool) (b : ℕ) (s : List ℕ) → 2 ≤ length s → map_o (λ u. b ∷ u) (stem_by t s) ≡ stem_by t (b ∷ s)
 onto-by false b s h = refl
 onto-by true b s h = let e : suc (length s) - 2 ≡ suc (length s - 2) = omega arith in rw e
 
-stem-two : (b d : ℕ) → stem (b ∷ d ∷ []) ≡ stem_by (ends_open (b ∷ d ∷ [])) (b ∷ d ∷ [])
-unfolding ends_open
-stem-two b d = rw (one_byte d, and_truth (eqb d 123))
+abbrev pub opens_block : List ℕ → Bool
+opens_block c = ends_with eqb c (bytes ":{")
 
-ends_on : (b d f : ℕ) (s : List ℕ) → ends_open (b ∷ d ∷ f ∷ s) ≡ ends_open (d ∷ f ∷ s)
-unfolding ends_open
+stem-two : (b d : ℕ) → stem (b ∷ d ∷ []) ≡ stem_by (opens_block (b ∷ d ∷ [])) (b ∷ d ∷ [])
+stem-two b d = rw (one_byte d, and_truth (eqb d 123), ends_two b d)
+
+ends_on : (b d f : ℕ) (s : List ℕ) → opens_block (b ∷ d ∷ f ∷ s) ≡ opens_block (d ∷ f ∷ s)
 ends_on b d f s =
     let a : suc (suc (suc (length s))) - 2 ≡ suc (suc (suc (length s)) - 2) = omega arith in
-    let e : suc (suc (suc (length s))) - 1 ≡ suc (suc (suc (length s)) - 1) = omega arith in
-    rw (a, e, le-leb 2 (suc (suc (suc (length s)))) (omega arith), le-leb 2 (suc (suc (length s))) (omega arith))
+    rw a
 
-pub stem-is : (c : List ℕ) → stem c ≡ stem_by (ends_open c) c
-unfolding ends_open
+pub stem-is : (c : List ℕ) → stem c ≡ stem_by (opens_block c) c
 stem-is [] = refl
-stem-is (b ∷ []) = one_byte b
+stem-is (b ∷ []) = rw (one_byte b, and_false (eqb 58 b))
 stem-is (b ∷ d ∷ []) = stem-two b d
 stem-is (b ∷ d ∷ f ∷ s) =
     rw (no-two b d f s, ends_on b d f s)
-    (ap (map_o (λ (u : List ℕ). b ∷ u)) (stem-is (d ∷ f ∷ s)) ∙ onto-by (ends_open (d ∷ f ∷ s)) b (d ∷ f ∷ s) (omega arith))
-
-module _ (c : List ℕ) where
-  pub ends-short : length c < 2 → false ≡ ends_open c
-  unfolding ends_open
-  ends-short h = sym (rw (lt-leb 2 (length c) h))
-
-  pub ends-colon : 2 ≤ length c → get_or c (length c - 2) 0 ≡ 58 → eqb (get_or c (length c - 1) 0) 123 ≡ ends_open c
-  unfolding ends_open
-  ends-colon h e = sym (rw (le-leb 2 (length c) h, e))
-
-  pub ends-other : 2 ≤ length c → (get_or c (length c - 2) 0 ≡ 58 → ⊥) → false ≡ ends_open c
-  unfolding ends_open
-  ends-other h e = sym (rw (le-leb 2 (length c) h, ne_eqb (get_or c (length c - 2) 0) 58 e))
-
-  pub ends-two : ends_open c ≡ true → 2 ≤ length c
-  unfolding ends_open
-  ends-two e = leb-true 2 (length c) (and_left (leb 2 (length c)) (eqb (get_or c (length c - 2) 0) 58 && eqb (get_or c (length c - 1) 0) 123) e)
+    (ap (map_o (λ (u : List ℕ). b ∷ u)) (stem-is (d ∷ f ∷ s)) ∙ onto-by (opens_block (d ∷ f ∷ s)) b (d ∷ f ∷ s) (omega arith))
 
 -- ── the shapes ──
 module _ (at : ℕ) where
-  pub shape-none : (free : Bool) (c : List ℕ) → length c ≡ 0 → no_content ≡ shape_by free (equals at c)
-  shape-none true [] h = refl
-  shape-none false [] h = refl
-  shape-none free (b ∷ c) h = absurd (omega arith)
-
   pub shape_free : (free : Bool) (c : List ℕ) → (length c ≡ 0 → ⊥) → free ≡ true → content at c ≡ shape_by free (equals at c)
   shape_free free [] h e = absurd (h refl)
   shape_free free (b ∷ c) h e = rw e
 
-  pub shape-plain : (free : Bool) (c : List ℕ) → (length c ≡ 0 → ⊥) → free ≡ false → ends_open c ≡ false → content at c ≡ shape_by free (equals at c)
+  pub shape-plain : (free : Bool) (c : List ℕ) → (length c ≡ 0 → ⊥) → free ≡ false → opens_block c ≡ false → content at c ≡ shape_by free (equals at c)
   shape-plain free [] h e n = absurd (h refl)
   shape-plain free (b ∷ c) h e n = sym (rw e (ap (by_stem at (b ∷ c)) (stem-is (b ∷ c) ∙ ap (λ (t : Bool). stem_by t (b ∷ c)) n)))
 
-  pub shape-formless : (free : Bool) (c : List ℕ) → length c ≡ 2 → free ≡ false → ends_open c ≡ true → formless ≡ shape_by free (equals at c)
-  shape-formless free [] h e n = absurd (omega arith)
-  shape-formless free (b ∷ c) h e n =
-      let z : suc (length c) - 2 ≡ 0 = omega arith in
-      sym (rw e (ap (by_stem at (b ∷ c)) (stem-is (b ∷ c) ∙ ap (λ (t : Bool). stem_by t (b ∷ c)) n) ∙ rw z))
-
-  stem-opening : (b : ℕ) (c : List ℕ) (n : ℕ) → by_stem at (b ∷ c) (Some (take (suc n) (b ∷ c))) ≡ opening at (take (suc n) (b ∷ c))
-  stem-opening b c n = refl
-
-  pub shape-opening : (free : Bool) (c : List ℕ) → (length c ≡ 0 → ⊥) → (length c ≡ 2 → ⊥) → free ≡ false → ends_open c ≡ true → opening at (take (length c - 2) c) ≡ shape_by free (equals at c)
-  unfolding ends_open
+  pub shape-opening : (free : Bool) (c : List ℕ) → (length c ≡ 0 → ⊥) → (length c ≡ 2 → ⊥) → free ≡ false → opens_block c ≡ true → opening at (take (length c - 2) c) ≡ shape_by free (equals at c)
   shape-opening free [] h k e n = absurd (h refl)
-  shape-opening free (b ∷ []) h k e n = absurd (let z : ◌≡◌ {A = Bool} false true = n in let q : ◌≡◌ {A = ℕ} 0 1 = cc in omega arith)
+  shape-opening free (b ∷ []) h k e n = absurd (let z : ◌≡◌ {A = Bool} false true = sym (and_false (eqb 58 b)) ∙ n in let q : ◌≡◌ {A = ℕ} 0 1 = cc in omega arith)
   shape-opening free (b ∷ d ∷ []) h k e n = absurd (k refl)
   shape-opening free (b ∷ d ∷ f ∷ c) h k e n =
       let z : suc (suc (suc (length c))) - 2 ≡ suc (length c) = omega arith in
@@ -126,18 +103,6 @@ by-placed Q o n c b f P.Formless = f
 module _ (s : List ℕ) where
   pub form-by : (x : Placed) → has_form (shape_in s x) ≡ not (eqb (sort_of x) 4)
   form-by = by-placed (λ x. has_form (shape_in s x) ≡ not (eqb (sort_of x) 4)) refl refl (λ _. refl) (λ _. refl) refl
-
-  pub opener-by : (x : Placed) → is_opener (shape_in s x) ≡ eqb (sort_of x) 0
-  opener-by = by-placed (λ x. is_opener (shape_in s x) ≡ eqb (sort_of x) 0) refl refl (λ _. refl) (λ _. refl) refl
-
-  pub empty-by : (x : Placed) → is_empty (shape_in s x) ≡ eqb (sort_of x) 1
-  empty-by = by-placed (λ x. is_empty (shape_in s x) ≡ eqb (sort_of x) 1) refl refl (λ _. refl) (λ _. refl) refl
-
-  pub content-by : (x : Placed) → is_content (shape_in s x) ≡ eqb (sort_of x) 2
-  content-by = by-placed (λ x. is_content (shape_in s x) ≡ eqb (sort_of x) 2) refl refl (λ _. refl) (λ _. refl) refl
-
-  pub opening-by : (x : Placed) → is_opening (shape_in s x) ≡ eqb (sort_of x) 3
-  opening-by = by-placed (λ x. is_opening (shape_in s x) ≡ eqb (sort_of x) 3) refl refl (λ _. refl) (λ _. refl) refl
 
 -- ── rows by their kind ──
 -- the kinds but free text
@@ -170,23 +135,6 @@ by-rest P r w v s q l n o h e x y z =
     by_cond P (eqb r.kind 10) e λ _.
     by_cond P (eqb r.kind 11) (λ _. x) λ _.
     by_cond P (eqb r.kind 12) (λ _. y) λ _. z
-
-never : {P : Type 0} (a b : ℕ) → (a ≡ b → ⊥) → eqb a b ≡ true → P
-never a b h e = absurd (h (eqb-true a b e))
-
--- a row that opens nothing and is not empty is content, or empty where it may be
-pub fits-plain : (r : Row) (s : Shape) → (r.kind ≡ 7 → ⊥) → (r.kind ≡ 8 → ⊥) → (r.kind ≡ 9 → ⊥) → (r.kind ≡ 10 → ⊥)
-    → fits (kind_of r) r.may s ≡ (is_content s || (r.may && is_empty s))
-fits-plain r s h7 h8 h9 h10 =
-    let Q : Kind → Type 0 = λ k. fits k r.may s ≡ (is_content s || (r.may && is_empty s)) in
-    by_cond Q (eqb r.kind 1) (λ _. refl) λ _.
-    by-rest Q r refl refl refl refl refl (never r.kind 7 h7) (never r.kind 8 h8) (never r.kind 9 h9) (never r.kind 10 h10) refl refl refl
-
-pub inner-none : (r : Row) → (r.kind ≡ 8 → ⊥) → (r.kind ≡ 9 → ⊥) → (r.kind ≡ 10 → ⊥) → 0 ≡ inner_of (kind_of r)
-inner-none r h8 h9 h10 =
-    let Q : Kind → Type 0 = λ k. 0 ≡ inner_of k in
-    by_cond Q (eqb r.kind 1) (λ _. refl) λ _.
-    by-rest Q r refl refl refl refl refl (λ _. refl) (never r.kind 8 h8) (never r.kind 9 h9) (never r.kind 10 h10) refl refl refl
 
 rest-free : (r : Row) → is_free (rest_of r) ≡ false
 rest-free r = by-rest (λ k. is_free k ≡ false) r refl refl refl refl refl (λ _. refl) (λ _. refl) (λ _. refl) (λ _. refl) refl refl refl

@@ -7,42 +7,19 @@ use mathlib.Core.List.{List, [], ◌∷◌, ◌++◌}
 use native.Mathlib.Omega.{arith}
 use lib.Dec.{eqb}
 use lib.IntN.{ℤ, negsuc}
-use lib.ListN.{length, get_or, drop, set, drop_of_length-le}
+use lib.ListN.{length, set}
 use lib.Seq.{sets}
-use borrow.Author.Tests.{eq-eqb, ne_eqb}
-use Rattle.rules.specs.Base.{split, head_onto}
+use Rattle.rules.specs.Base.{split}
 use Rattle.rules.specs.RefusalNumbers.{Got, got, bad, map_g, keep}
 use Rattle.rules.specs.Values.{Num, Known, Part, nums, Value, Kind, values, symbol_circle, agree, no_turn, read_all, read_kind}
 use Rattle.rules.specs.RecordTable.{numbers, columns}
-use Rattle.rules.proofs.Chains.{by_cond, clash}
-use Rattle.leaves.proofs.Scan.{at}
+use Rattle.rules.proofs.Chains.{clash}
 use Rattle.tables.specs.Rows.{part_of, parts_of, across_of, values_of}
 use Rattle.tables.specs.declared.Row.{Row}
 use Rattle.entries.specs.Entering.{On, Puts, plainly, covered, settled, agree_from}
 use Rattle.entries.specs.Forms.{own_forms, of_arc, of_whole, forms_for}
 use Rattle.entries.specs.declared.Forms.{Forms}
 use Rattle.entries.proofs.EachValue.{map-long, long-all, parts-long, done-not, across-by}
-
--- ── how many values there are ──
-head-long : (b : ℕ) (ss : List (List ℕ)) → 1 ≤ length ss → length (head_onto b ss) ≡ length ss
-head-long b [] h = absurd (omega arith)
-head-long b (s ∷ ss) h = refl
-
-split-some : (s : List ℕ) → 1 ≤ length (split 44 s)
-split-some [] = omega arith
-split-some (b ∷ s) =
-    by_cond (λ ss. 1 ≤ length ss) (eqb b 44) (λ _. omega arith) (λ _. let h = split-some s in omega (arith, h, head-long b (split 44 s) h))
-
--- one more from a comma on, none more from another byte on
-module _ (c : List ℕ) (i : ℕ) (h : i < length c) where
-  pub at_comma : get_or c i 0 ≡ 44 → length (split 44 (drop i c)) ≡ suc (length (split 44 (drop (i + 1) c)))
-  at_comma e = rw (at c i h, eq-eqb (get_or c i 0) 44 e)
-
-  pub no_comma : (get_or c i 0 ≡ 44 → ⊥) → length (split 44 (drop i c)) ≡ length (split 44 (drop (i + 1) c))
-  no_comma e = rw (at c i h, ne_eqb (get_or c i 0) 44 e) (head-long (get_or c i 0) (split 44 (drop (i + 1) c)) (split-some (drop (i + 1) c)))
-
-pub no_more : (c : List ℕ) (i : ℕ) → length c ≤ i → length (split 44 (drop i c)) ≡ 1
-no_more c i h = rw (drop_of_length-le c h)
 
 -- ── the forms by the row ──
 abbrev pub parts_in : Forms → List Part

@@ -1,8 +1,8 @@
+pub mod Commas
 pub mod NameScan
 pub mod OneValue
 pub mod EachValue
 pub mod FormsRead
-pub mod PowerRows
 pub mod ByKind
 pub mod WireSerials
 pub mod ByShape

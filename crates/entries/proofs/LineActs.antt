@@ -1,26 +1,26 @@
 -- A line with a key of a row: its numbers and state, and what it does.
 use Rattle.std.specs.Prelude.{Result, Ok, Err, ⊤}
-use Prim.Native.Nat.{ℕ, zero, suc, ◌+◌, ◌<◌, ◌≤◌}
+use Prim.Native.Nat.{ℕ, ◌+◌, ◌<◌, ◌≤◌}
 use mathlib.Core.Path.{◌≡◌, refl, ap, sym, ◌∙◌}
 use mathlib.Core.Bool.{Bool, true, false, cond, ◌&&◌, not}
 use mathlib.Core.List.{List, [], ◌∷◌}
+use mathlib.Core.Logic.{◌⊎◌, inl, inr}
 use native.Mathlib.Omega.{arith}
-use lib.Dec.{eqb, leb, ltb}
+use lib.Dec.{leb, ltb}
 use lib.IntN.{ℤ, pos}
-use lib.ListN.{length, drop, set, length-take, length-drop}
+use lib.ListN.{length, drop, length-take, length-drop}
 use lib.Seq.{sets}
-use borrow.Author.Tests.{leb-true, ltb-true, ne_eqb}
+use borrow.Author.Tests.{leb-true, ltb-true}
 use Rattle.rules.specs.Base.{all, split}
 use Rattle.rules.specs.RefusalNumbers.{Got, got, bad, unless, map_g, or_bad, keep, and_then}
 use Rattle.rules.specs.Lines.{bytes_at}
 use Rattle.rules.specs.Values.{Num, Known, Value, empty, nums, chars, Kind, values, text, word, volume_name, sheet, ratio, serials, wire_serial, symbol_circle, nothing, opens, headed, either, read_kind, read_part, range, read_all, read_wire_serial, read_circle, read_ratio, find_sheet, sheets, agree, byte_in, letters_and_digits}
 use Rattle.rules.specs.RecordTable.{numbers, given, columns, put_state}
-use Rattle.rules.specs.Rows.{Rule, Act, entry, begin, or_refuse, read_shape, inner_of, not_twice, any_number, up_to}
+use Rattle.rules.specs.Rows.{Rule, Act, entry, begin, or_refuse, read_shape, inner_of}
 use Rattle.rules.proofs.Chains.{and_left, and_right}
 use Rattle.rules.specs.declared.Span.{Span}
-use Rattle.tables.specs.Rows.{times_of}
 use Rattle.entries.specs.Entering.{On, Puts, settled}
-use Rattle.entries.specs.Shapes.{shape_in, sort_of, span_of}
+use Rattle.entries.specs.Shapes.{shape_in}
 use Rattle.entries.specs.Acts.{place_of, put_line, roomy, value_of, Acts, next_for}
 use Rattle.entries.specs.declared.Shape.{Shape as Placed}
 use Rattle.entries.specs.declared.Shape.TheVariants as P
@@ -29,14 +29,6 @@ use Rattle.entries.proofs.EachValue.{done-not}
 use Rattle.entries.proofs.ByKind.{on-linked_in}
 
 -- ── places ──
-pub place-some : (p dump : ℕ) → (p ≡ 0 → ⊥) → p ≡ place_of p dump
-place-some zero dump h = absurd (h refl)
-place-some (suc p) dump h = refl
-
-pub state-some : (q : ℕ) (z : ℤ) (t : List ℤ) → (q ≡ 0 → ⊥) → set t q z ≡ put_state q z t
-state-some zero z t h = absurd (h refl)
-state-some (suc q) z t h = refl
-
 module _ (dump n : ℕ) (r : Rule) (h : roomy dump n r ≡ true) where
   behind : (ltb r.state n && settled r.holds) ≡ true
   behind = and_right (leb (place_of r.place dump + columns r.holds) n) (ltb r.state n && settled r.holds) h
@@ -104,34 +96,9 @@ module _ (k : Known) (j : ℕ) (r : Rule) (dump : ℕ) (t t₁ : List ℤ) (s : 
   abbrev pub ShapePuts : Placed → Result ⊤ ℕ → Type 0
   ShapePuts x a = Puts (read_shape k j r (shape_in s x)) (λ b. put_line r dump (value_of b) t) t₁ a
 
-  pub opener_puts : (x : Placed) → sort_of x ≡ 0 → t₁ ≡ put_state r.state (pos 2) t → ShapePuts x (Ok tt)
-  opener_puts P.Opener e f = record { eq = refl; filled = f }
-  opener_puts P.NoContent e f = absurd (omega arith)
-  opener_puts (P.Content p) e f = absurd (omega arith)
-  opener_puts (P.Opening p) e f = absurd (omega arith)
-  opener_puts P.Formless e f = absurd (omega arith)
-
-  pub empty_puts : (x : Placed) → sort_of x ≡ 1 → t₁ ≡ put_state r.state (pos 1) t → ShapePuts x (Ok tt)
-  empty_puts P.Opener e f = absurd (omega arith)
-  empty_puts P.NoContent e f = record { eq = refl; filled = f }
-  empty_puts (P.Content p) e f = absurd (omega arith)
-  empty_puts (P.Opening p) e f = absurd (omega arith)
-  empty_puts P.Formless e f = absurd (omega arith)
-
-  pub formless_puts : (x : Placed) → sort_of x ≡ 4 → ShapePuts x (Err 5)
-  formless_puts P.Opener e = absurd (omega arith)
-  formless_puts P.NoContent e = absurd (omega arith)
-  formless_puts (P.Content p) e = absurd (omega arith)
-  formless_puts (P.Opening p) e = absurd (omega arith)
-  formless_puts P.Formless e = record { eq = refl; filled = tt }
-
-  pub content_puts : (x : Placed) (a : Result ⊤ ℕ) → (sort_of x ≡ 4 → ⊥) → (sort_of x ≡ 0 → ⊥) → (sort_of x ≡ 1 → ⊥)
-      → Puts (read_kind k r.holds (span_of x).at (bytes_at s (span_of x))) (λ v. put_line r dump v t) t₁ a → ShapePuts x a
-  content_puts P.Opener a n₄ n₀ n₁ h = absurd (n₀ refl)
-  content_puts P.NoContent a n₄ n₀ n₁ h = absurd (n₁ refl)
-  content_puts (P.Content p) a n₄ n₀ n₁ h = shape-put (entry j) (λ (v : Value). refl) (read_kind k r.holds p.at (bytes_at s p)) r dump t t₁ a h
-  content_puts (P.Opening p) a n₄ n₀ n₁ h = shape-put (begin (inner_of r.holds) j) (λ (v : Value). refl) (read_kind k r.holds p.at (bytes_at s p)) r dump t t₁ a h
-  content_puts P.Formless a n₄ n₀ n₁ h = absurd (n₄ refl)
+  pub content_puts : (x : Placed) (p : Span) → (x ≡ P.Content p) ⊎ (x ≡ P.Opening p) → (a : Result ⊤ ℕ) → Puts (read_kind k r.holds p.at (bytes_at s p)) (λ v. put_line r dump v t) t₁ a → ShapePuts x a
+  content_puts x p (inl e) a h = rw e (shape-put (entry j) (λ (v : Value). refl) (read_kind k r.holds p.at (bytes_at s p)) r dump t t₁ a h)
+  content_puts x p (inr e) a h = rw e (shape-put (begin (inner_of r.holds) j) (λ (v : Value). refl) (read_kind k r.holds p.at (bytes_at s p)) r dump t t₁ a h)
 
 -- ── what is done ──
 module _ (j : ℕ) (r : Rule) (dump : ℕ) (t t₁ : List ℤ) (a : Result ⊤ ℕ) where
@@ -148,7 +115,7 @@ module _ (j : ℕ) (r : Rule) (dump : ℕ) (t t₁ : List ℤ) (a : Result ⊤ �
   begin-put i (got v) false h d = record { eq = refl; entered = h.filled }
 
   pub line-entered : (k : Known) (s : List ℕ) (x : Placed) (full : Bool) → Puts (read_shape k j r (shape_in s x)) (λ b. put_line r dump (value_of b) t) t₁ a → a ≡ Ok tt
-      → Acts (λ _. r) dump t (or_refuse (and_then (read_shape k j r (shape_in s x)) λ b. unless (not full) 11 (got b))) t₁ (next_for full j (inner_of r.holds) (sort_of x))
+      → Acts (λ _. r) dump t (or_refuse (and_then (read_shape k j r (shape_in s x)) λ b. unless (not full) 11 (got b))) t₁ (next_for full j (inner_of r.holds) x)
   line-entered k s P.Opener full h d = begin-put (inner_of r.holds) (got (nums [])) full h d
   line-entered k s P.NoContent full h d = entry-put (got empty) full h d
   line-entered k s (P.Content p) full h d = entry-put (read_kind k r.holds p.at (bytes_at s p)) full h d
@@ -161,14 +128,6 @@ module _ (j : ℕ) (r : Rule) (dump : ℕ) (t t₁ : List ℤ) (a : Result ⊤ �
     where
       refused : (m n : ℕ) → ◌≡◌ {A = Result ⊤ ℕ} (Err m) (Err n) → m ≡ n
       refused m n e = cc
-
--- a row that may stand more than once
-pub not-once : (n : ℕ) (full : Bool) → (n ≡ 0 → ⊥) → not_twice (times_of n) full ≡ true
-not-once n full h = rw (ne_eqb n 0 h) (go (eqb n 255))
-  where
-    go : (t : Bool) → not_twice (cond t any_number (up_to n)) full ≡ true
-    go true = refl
-    go false = refl
 
 -- a part of the spool is no longer than it
 pub part-most : (s : List ℕ) (p : Span) (c : List ℕ) → c ≡ bytes_at s p → length s ≤ 61440 → length c ≤ 61440

@@ -1,7 +1,7 @@
 -- The rows of a table: which are required, and what a line of one does.
 use Prim.Native.Nat.{ℕ, zero, suc, ◌+◌, ◌<◌, ◌≤◌}
 use mathlib.Core.Path.{◌≡◌, refl, ap, sym, subst, ◌∙◌}
-use mathlib.Core.Bool.{Bool, true, false, cond, ◌&&◌, ◌||◌, not}
+use mathlib.Core.Bool.{Bool, true, false, ◌&&◌, ◌||◌, not}
 use mathlib.Core.List.{List, [], ◌∷◌}
 use native.Mathlib.Omega.{arith}
 use native.Mathlib.Numerals.{add-one}
@@ -11,14 +11,10 @@ use lib.ListN.{length, get_or, drop, drop_of_length-le}
 use lib.Seq.{drop-cons}
 use borrow.Author.Tests.{eqb-true, ne_eqb, not-true, le-leb, lt-ltb}
 use Rattle.rules.specs.declared.Digits.{Digits}
-use Rattle.rules.specs.declared.Opener.{Opener}
-use Rattle.rules.specs.declared.Equation.{Equation}
-use Rattle.rules.specs.declared.LineForm.{LineForm}
-use Rattle.rules.specs.declared.LineForm.TheVariants as L
 use Rattle.rules.specs.Base.{all, has_number}
 use Rattle.rules.specs.RefusalNumbers.{Got, got, bad, unless, map_g, and_then}
 use Rattle.rules.specs.RangeClass.{reaches}
-use Rattle.rules.specs.Lines.{Rest, Shape, opener, no_content, content, opening, formless, shape_of, has_form, keyed, bytes_at, form_in}
+use Rattle.rules.specs.Lines.{Rest, Shape, opener, no_content, content, opening, formless, shape_of, has_form}
 use Rattle.rules.specs.Values.{Known, Value, read_kind}
 use Rattle.rules.specs.Rows.{Rule, Act, stay, entry, begin, shut, refuse, or_refuse, inner_of, read_shape, shape_for, fits, not_twice, act_row, act_unknown, act_found, Found, absent, found, find, present, complete}
 use Rattle.rules.specs.RecordTable.{rule_at, columns}
@@ -29,7 +25,6 @@ use Rattle.rules.proofs.Rows.{found-row, row-all, row_at, reaches-none}
 use Rattle.tables.specs.Tables.{table_of}
 use Rattle.tables.specs.Rows.{rule_of, for_line, found_for_line}
 use Rattle.tables.specs.declared.Row.{Row}
-use Rattle.entries.specs.Shapes.{key_of, rest_of, rest_in}
 use Rattle.entries.specs.Acts.{place_of, put_line, roomy, next_of, Entered, Acts, wanted, needs_none}
 use Rattle.entries.specs.declared.Next.{Next}
 use Rattle.entries.proofs.LineActs.{room-place, room-state, room_settled}
@@ -269,17 +264,6 @@ pub no-mark : (full : List Bool) (i : ℕ) → length full ≤ i → false ≡ g
 no-mark [] i h = refl
 no-mark (b ∷ full) zero h = absurd (omega arith)
 no-mark (b ∷ full) (suc i) h = no-mark full i (omega arith)
-
-pub closed-acts : (rule : ℕ → Rule) (dump : ℕ) (t : List ℤ) (b : Bool) (n : Next) → n ≡ next_of (cond b shut (refuse 8)) → Acts rule dump t (cond b shut (refuse 8)) t n
-closed-acts rule dump t true n e = record { eq = e; entered = refl }
-closed-acts rule dump t false n e = record { eq = e; entered = tt }
-
--- a line with a key, by its key and by what stands behind it
-pub opens-keyed : (s : List ℕ) (f : LineForm) (o : Opener) → f ≡ L.Opens o → form_in s f ≡ keyed (bytes_at s (key_of f)) (rest_in s (rest_of f))
-opens-keyed s f o e = rw e
-
-pub equals-keyed : (s : List ℕ) (f : LineForm) (q : Equation) → f ≡ L.Equals q → form_in s f ≡ keyed (bytes_at s (key_of f)) (rest_in s (rest_of f))
-equals-keyed s f q e = rw e
 
 -- ── room for the rows of a table ──
 pub room-more : (dump m n : ℕ) (t : List Rule) → m ≤ n → all (roomy dump m) t ≡ true → all (roomy dump n) t ≡ true

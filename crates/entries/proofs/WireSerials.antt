@@ -33,36 +33,6 @@ partner-is : (c : List ℕ) → Partner (read_partner c)
 partner-is [] = refl
 partner-is (b ∷ s) = partner-by (read_count 10 (b ∷ s))
 
-module _ (c : List ℕ) (t t₁ : List ℤ) (p : ℕ) where
-  pub partner-empty : length c ≡ 0 → t₁ ≡ sets t p (pos 1 ∷ pos 0 ∷ []) → Puts (read_partner c) (λ v. sets t p (plainly v)) t₁ (Ok tt)
-  partner-empty e f = go c e
-    where
-      go : (c : List ℕ) → length c ≡ 0 → Puts (read_partner c) (λ v. sets t p (plainly v)) t₁ (Ok tt)
-      go [] e = record { eq = refl; filled = f }
-      go (b ∷ s) e = absurd (omega arith)
-
-  pub partner-given : (n : ℕ) → (length c ≡ 0 → ⊥) → Some n ≡ read_count 10 c → t₁ ≡ sets t p (pos 2 ∷ pos n ∷ []) → Puts (read_partner c) (λ v. sets t p (plainly v)) t₁ (Ok tt)
-  partner-given n h e f = go c h e
-    where
-      by : (o : Option ℕ) → Some n ≡ o → Puts (map_g (λ n. two_nums 2 n) (or_bad 10 o)) (λ v. sets t p (plainly v)) t₁ (Ok tt)
-      by None e = absurd (let q : ◌≡◌ {A = ℕ} 0 1 = cc in omega arith)
-      by (Some m) e = let q : n ≡ m = cc in record { eq = refl; filled = rw q at f }
-
-      go : (c : List ℕ) → (length c ≡ 0 → ⊥) → Some n ≡ read_count 10 c → Puts (read_partner c) (λ v. sets t p (plainly v)) t₁ (Ok tt)
-      go [] h e = absurd (h refl)
-      go (b ∷ s) h e = by (read_count 10 (b ∷ s)) e
-
-  pub partner-bad : (length c ≡ 0 → ⊥) → None ≡ read_count 10 c → Puts (read_partner c) (λ v. sets t p (plainly v)) t₁ (Err 10)
-  partner-bad h e = go c h e
-    where
-      by : (o : Option ℕ) → None ≡ o → Puts (map_g (λ n. two_nums 2 n) (or_bad 10 o)) (λ v. sets t p (plainly v)) t₁ (Err 10)
-      by None e = record { eq = refl; filled = tt }
-      by (Some m) e = absurd (let q : ◌≡◌ {A = ℕ} 0 1 = cc in omega arith)
-
-      go : (c : List ℕ) → (length c ≡ 0 → ⊥) → None ≡ read_count 10 c → Puts (read_partner c) (λ v. sets t p (plainly v)) t₁ (Err 10)
-      go [] h e = absurd (h refl)
-      go (b ∷ s) h e = by (read_count 10 (b ∷ s)) e
-
 -- ── both partners ──
 abbrev both : Got (List Num) → Got (List Num) → Got (List Num)
 both x y = map_g flat (cons_g x (cons_g y (got [])))
@@ -79,10 +49,10 @@ both-put (got v) (bad n) h k t t₁ t₂ p b f g = record { eq = g.eq; filled = 
 both-put (got v) (got w) h k t t₁ t₂ p b f g =
     record { eq = g.eq; filled = g.filled ∙ ap (λ (u : List ℤ). sets u (p + 2) (plainly w)) f.filled ∙ both-filled v w t p h k }
 
-both-bad : (x y : Got (List Num)) → Partner x → Partner y → (w w' : List Num → List ℤ) (t t' : List ℤ) (n : ℕ) → Puts x w t (Err n) → Puts (both x y) w' t' (Err 10)
+both-bad : (x y : Got (List Num)) → Partner x → Partner y → (w w' : List Num → List ℤ) (t t' : List ℤ) (n : ℕ) → Puts x w t (Err n) → Puts (both x y) w' t' (Err n)
 both-bad (got v) y h k w w' t t' n f = done-not n (sym f.eq)
-both-bad (bad m) (got u) h k w w' t t' n f = rw h (record { eq = refl; filled = tt })
-both-bad (bad m) (bad l) h k w w' t t' n f = rw (h, k) (record { eq = refl; filled = tt })
+both-bad (bad m) (got u) h k w w' t t' n f = record { eq = f.eq; filled = tt }
+both-bad (bad m) (bad l) h k w w' t t' n f = let e = f.eq ∙ ap Err h in rw (h, k) (record { eq = e; filled = tt })
 
 -- ── by the commas ──
 -- the piece in front of the first comma, and what is behind it
@@ -97,7 +67,7 @@ module _ (a b : List ℕ) (t : List ℤ) (p f : ℕ) (q : f ≡ length (up_to 44
   ends-many t₁ h = rw (split-more 44 b (omega (arith, q, h)), many_items a (up_to 44 b) (past 44 b)) (record { eq = refl; filled = tt })
 
   pub ends-bad : (t₁ t₂ : List ℤ) (n : ℕ) → length b ≤ f → Puts (read_partner a) (λ v. sets t p (plainly v)) t₁ (Err n)
-      → Puts (read_ends (a ∷ split 44 b)) (λ v. sets t p (plainly v)) t₂ (Err 10)
+      → Puts (read_ends (a ∷ split 44 b)) (λ v. sets t p (plainly v)) t₂ (Err n)
   ends-bad t₁ t₂ n h x =
       rw (split-last 44 b (omega (arith, q, h)))
       (both-bad (read_partner a) (read_partner b) (partner-is a) (partner-is b) (λ v. sets t p (plainly v)) (λ v. sets t p (plainly v)) t₁ t₂ n x)

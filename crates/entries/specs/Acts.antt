@@ -11,8 +11,9 @@ use Rattle.rules.specs.RecordTable.{numbers, given, columns, put_state}
 use Rattle.entries.specs.Entering.{settled}
 use Rattle.entries.specs.declared.Next.{Next}
 use Rattle.entries.specs.declared.Next.TheVariants as N
+use Rattle.entries.specs.declared.Shape.{Shape as Placed}
+use Rattle.entries.specs.declared.Shape.TheVariants as P
 use Rattle.tables.specs.Numbering.{table_top, table_defines, table_element, table_symbol_points, table_wired_layer, table_single_wired_layer}
-use Rattle.entries.specs.Shapes.{sort_opener, sort_opening}
 
 -- ── the places ──
 -- a row without a place of its own goes to another one
@@ -66,8 +67,15 @@ act_shape k d full j r s =
     (and_then (read_shape k j r s) λ a. unless (not full) 11 (got a))))))
 
 -- what a line that was entered does, by which of the five shapes it has
-abbrev pub next_for : Bool → ℕ → ℕ → ℕ → Next
-next_for full j i n = cond full (N.Refuse 11) (cond (eqb n sort_opener || eqb n sort_opening) (N.Begin (record { block = i; row = j })) (N.Entry j))
+abbrev pub next_by : ℕ → ℕ → Placed → Next
+next_by j i P.Opener = N.Begin (record { block = i; row = j })
+next_by j i P.NoContent = N.Entry j
+next_by j i (P.Content p) = N.Entry j
+next_by j i (P.Opening p) = N.Begin (record { block = i; row = j })
+next_by j i P.Formless = N.Entry j
+
+abbrev pub next_for : Bool → ℕ → ℕ → Placed → Next
+next_for full j i s = cond full (N.Refuse 11) (next_by j i s)
 
 -- ── what a block must have ──
 abbrev pub wanted : Digits → Rule → Bool

@@ -1,5 +1,5 @@
 -- What a line with a key is, by places.
-use Rattle.std.specs.Prelude.{ℕ, ◌-◌, Bool, cond, ◌&&◌, List, eqb, leb, length, get_or}
+use Rattle.std.specs.Prelude.{ℕ, Bool, cond, List}
 use Rattle.rules.specs.Lines.{Rest, brace, equals, Shape, opener, no_content, content, opening, formless, shape_of, free_shape_of, bytes_at}
 use Rattle.rules.specs.declared.Span.{Span}
 use Rattle.rules.specs.declared.LineForm.{LineForm}
@@ -63,18 +63,6 @@ sort_of (P.Content p) = sort_content
 sort_of (P.Opening p) = sort_opening
 sort_of P.Formless = sort_formless
 
--- where its content stands; of a shape without content it does not matter where
-abbrev pub span_of : Placed → Span
-span_of P.Opener = nothing_at
-span_of P.NoContent = nothing_at
-span_of (P.Content p) = p
-span_of (P.Opening p) = p
-span_of P.Formless = nothing_at
-
 -- with free text behind the key, or without
 abbrev pub shape_by : Bool → Rest → Shape
 shape_by free c = cond free (free_shape_of c) (shape_of c)
-
--- the last two bytes are `:{`
-unfoldable pub ends_open : List ℕ → Bool
-ends_open c = leb 2 (length c) && (eqb (get_or c (length c - 2) 0) 58 && eqb (get_or c (length c - 1) 0) 123)

@@ -12,8 +12,8 @@ ghost use Rattle.entries.specs.Acts.{roomy, next_of, Acts, wanted, needs_none};
 use crate::names::part;
 use crate::required::{drawing_wants, placed_wants, range_wants, symbol_wants, wire_wants};
 use crate::row_lines::act_row;
-use crate::shapes::{key_of, rest_of, shape_for, sort_of};
-use crate::{Next, Rest};
+use crate::shapes::{key_of, rest_of, shape_for};
+use crate::{Next, Rest, Shape};
 use rules::{Digits, LineForm, Span};
 use tables::lookup::row_of;
 use tables::{
@@ -97,29 +97,26 @@ fn close(table: u8, d: Digits, full: &[bool]) -> Next
     ensures { result ≡ next_of (cond (complete d (table_of table) full.now) shut (refuse 8)) }
 {
     if complete(table, d, full) {
-        return Next::Shut;
+        Next::Shut
+    } else {
+        Next::Refuse(8)
     }
-    Next::Refuse(8)
 }
 
 fn mark(full: &[bool], row: u8) -> bool
     ensures { result ≡ get_or full.now row false }
 {
-    let i = row as usize;
-    if i < full.len() {
-        return full[i];
-    }
-    false
+    matches!(full.get(row as usize), Some(true))
 }
 
 // A key that is not known here: 6, and 5 where the line has no form.
 fn unknown(s: &[u8], rest: Rest) -> Next
     ensures { result ≡ next_of (act_unknown (rest_in s.now rest)) }
 {
-    if sort_of(shape_for(s, false, rest)) == 4 {
-        return Next::Refuse(5);
+    match shape_for(s, false, rest) {
+        Shape::Formless => Next::Refuse(5),
+        _ => Next::Refuse(6),
     }
-    Next::Refuse(6)
 }
 
 fn act_key(
@@ -163,31 +160,21 @@ pub fn act(
     ensures { Acts (rule_at (table_of table)) dump rec.old (act (known_in s.now symbols.now layers.now) (table_of table) d full.now (form_in s.now form)) rec.new result }
 {
     match form {
-        LineForm::Ignored => {
-            return Next::Stay;
-        }
-        LineForm::Close => {
-            return close(table, d, full);
-        }
-        LineForm::Eof => {
-            return Next::Refuse(9);
-        }
-        LineForm::Opens(_) => {}
-        LineForm::Equals(_) => {}
-        LineForm::Refused(r) => {
-            return Next::Refuse(r.number);
-        }
+        LineForm::Ignored => Next::Stay,
+        LineForm::Close => close(table, d, full),
+        LineForm::Eof => Next::Refuse(9),
+        LineForm::Refused(r) => Next::Refuse(r.number),
+        LineForm::Opens(_) | LineForm::Equals(_) => act_key(
+            table,
+            s,
+            symbols,
+            layers,
+            d,
+            full,
+            key_of(form),
+            rest_of(form),
+            dump,
+            rec,
+        ),
     }
-    act_key(
-        table,
-        s,
-        symbols,
-        layers,
-        d,
-        full,
-        key_of(form),
-        rest_of(form),
-        dump,
-        rec,
-    )
 }

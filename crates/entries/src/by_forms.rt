@@ -9,20 +9,26 @@ use tables::{ACROSS_ARC, ARC_FORMS, HOLDS_CIRCLE, Row, WHOLE_FORMS};
 
 const WHOLE_VALUES: usize = 6;
 
+const WHOLE: Forms = Forms {
+    parts: WHOLE_FORMS,
+    more: 5,
+    across: 0,
+    turnless: true,
+};
+
+const ARC: Forms = Forms {
+    parts: ARC_FORMS,
+    more: 6,
+    across: ACROSS_ARC,
+    turnless: false,
+};
+
 // How many values stand between commas.
-fn values_in(c: &[u8]) -> usize
+pub(crate) fn values_in(c: &[u8]) -> usize
     requires { length c.now ≤ 61440 }
     ensures { result ≡ length (split 44 c.now) }
 {
-    let mut n = 1;
-    let mut i = 0;
-    while i < c.len() {
-        if c[i] == b',' {
-            n += 1;
-        }
-        i += 1;
-    }
-    n
+    1 + c.iter().filter(|b| **b == b',').count()
 }
 
 pub(crate) fn forms_for(row: Row, c: &[u8]) -> Forms
@@ -30,25 +36,15 @@ pub(crate) fn forms_for(row: Row, c: &[u8]) -> Forms
     ensures { result ≡ forms_for row (length (split 44 c.now)) }
 {
     if row.kind != HOLDS_CIRCLE {
-        return Forms {
+        Forms {
             parts: row.parts,
             more: row.count,
             across: row.across,
             turnless: false,
-        };
-    }
-    if values_in(c) == WHOLE_VALUES {
-        return Forms {
-            parts: WHOLE_FORMS,
-            more: 5,
-            across: 0,
-            turnless: true,
-        };
-    }
-    Forms {
-        parts: ARC_FORMS,
-        more: 6,
-        across: ACROSS_ARC,
-        turnless: false,
+        }
+    } else if values_in(c) == WHOLE_VALUES {
+        WHOLE
+    } else {
+        ARC
     }
 }

@@ -8,6 +8,7 @@ ghost use Rattle.tables.specs.Rows.{kind_of};
 ghost use Rattle.entries.specs.Names.{known_in};
 ghost use Rattle.entries.specs.Entering.{Puts, settled, serials_in};
 
+use crate::by_forms::values_in;
 use crate::parts::single;
 use crate::values::{put_value, values};
 use crate::wire_serials::put_wire_serial;
@@ -57,9 +58,7 @@ fn put_sheet(c: &[u8], p: usize, rec: &mut [i64]) -> Result<(), u8>
     requires { p + 2 ≤ length rec.old }
     ensures { Puts (read_kind (known_in [] [] []) sheet 0 c.now) (λ v. sets rec.old p (numbers v)) rec.new result }
 {
-    let Some(z) = sheet(c) else {
-        return Err(11);
-    };
+    let z = sheet(c).ok_or(11)?;
     put_two(z.multiplier as u64, z.number as u64, p, rec);
     Ok(())
 }
@@ -68,13 +67,9 @@ fn put_ratio(c: &[u8], p: usize, rec: &mut [i64]) -> Result<(), u8>
     requires { p + 2 ≤ length rec.old }
     ensures { Puts (read_kind (known_in [] [] []) ratio 0 c.now) (λ v. sets rec.old p (numbers v)) rec.new result }
 {
-    match ratio(c) {
-        Ok(z) => {
-            put_two(z.p as u64, z.q as u64, p, rec);
-            Ok(())
-        }
-        Err(n) => Err(n),
-    }
+    let z = ratio(c)?;
+    put_two(z.p as u64, z.q as u64, p, rec);
+    Ok(())
 }
 
 // How many serial numbers there are, where all between commas are such.
@@ -82,21 +77,11 @@ fn serial_count(c: &[u8]) -> Option<u64>
     requires { length c.now ≤ 61440 }
     ensures { result ≡ serials_in c.now }
 {
-    let mut i = 0;
-    let mut n = 0;
-    let mut e = find(c, b',');
-    while e < c.len() {
-        let Some(_) = serial(&c[i..e]) else {
-            return None;
-        };
-        n += 1;
-        i = e + 1;
-        e = i + find(&c[i..], b',');
+    if c.split(|b| *b == b',').all(|item| serial(item).is_some()) {
+        Some(values_in(c) as u64)
+    } else {
+        None
     }
-    let Some(_) = serial(&c[i..]) else {
-        return None;
-    };
-    Some(n + 1)
 }
 
 // The own serial number and how many partners there are, at most 100.
@@ -104,17 +89,12 @@ fn put_serials(c: &[u8], p: usize, rec: &mut [i64]) -> Result<(), u8>
     requires { (length c.now ≤ 61440) × (p + 2 ≤ length rec.old) }
     ensures { Puts (read_kind (known_in [] [] []) serials 0 c.now) (λ v. sets rec.old p (numbers v)) rec.new result }
 {
-    let Some(n) = serial_count(c) else {
-        return Err(10);
-    };
+    let n = serial_count(c).ok_or(10)?;
     if 101 < n {
         return Err(11);
     }
-    let e = find(c, b',');
-    let Some(v) = serial(&c[..e]) else {
-        return Err(10);
-    };
-    put_two(v, n - 1, p, rec);
+    let own = serial(&c[..find(c, b',')]).ok_or(10)?;
+    put_two(own, n - 1, p, rec);
     Ok(())
 }
 
@@ -132,38 +112,16 @@ pub(crate) fn read_kind(
     requires { (length symbols.now ≤ 65536) × (length layers.now ≤ 65536) × (length c.now ≤ 61440) × (p + columns (kind_of row) ≤ length rec.old) × (settled (kind_of row) ≡ true) }
     ensures { Puts (read_kind (known_in s.now symbols.now layers.now) (kind_of row) at c.now) (λ v. sets rec.old p (numbers v)) rec.new result }
 {
-    if row.kind == HOLDS_TEXT {
-        return chars(row.most, row.set, at, c, p, rec);
+    match row.kind {
+        HOLDS_TEXT | HOLDS_WORD => chars(row.most, row.set, at, c, p, rec),
+        HOLDS_VOLUME_NAME => volume_name(at, c, p, rec),
+        HOLDS_SHEET => put_sheet(c, p, rec),
+        HOLDS_RATIO => put_ratio(c, p, rec),
+        HOLDS_SERIALS => put_serials(c, p, rec),
+        HOLDS_NOTHING | HOLDS_BLOCK => Err(5),
+        HOLDS_HEADED => put_value(single(row.parts, s, symbols, layers, c), p, rec),
+        HOLDS_EITHER => put_value(single(PART_RANGE_0_1, s, symbols, layers, c), p, rec),
+        HOLDS_WIRE_SERIAL => put_wire_serial(c, p, rec),
+        _ => values(row, s, symbols, layers, c, p, rec),
     }
-    if row.kind == HOLDS_WORD {
-        return chars(row.most, row.set, at, c, p, rec);
-    }
-    if row.kind == HOLDS_VOLUME_NAME {
-        return volume_name(at, c, p, rec);
-    }
-    if row.kind == HOLDS_SHEET {
-        return put_sheet(c, p, rec);
-    }
-    if row.kind == HOLDS_RATIO {
-        return put_ratio(c, p, rec);
-    }
-    if row.kind == HOLDS_SERIALS {
-        return put_serials(c, p, rec);
-    }
-    if row.kind == HOLDS_NOTHING {
-        return Err(5);
-    }
-    if row.kind == HOLDS_BLOCK {
-        return Err(5);
-    }
-    if row.kind == HOLDS_HEADED {
-        return put_value(single(row.parts, s, symbols, layers, c), p, rec);
-    }
-    if row.kind == HOLDS_EITHER {
-        return put_value(single(PART_RANGE_0_1, s, symbols, layers, c), p, rec);
-    }
-    if row.kind == HOLDS_WIRE_SERIAL {
-        return put_wire_serial(c, p, rec);
-    }
-    values(row, s, symbols, layers, c, p, rec)
 }

@@ -10,17 +10,10 @@ use rules::Span;
 pub fn part(s: &[u8], p: Span) -> &[u8]
     ensures { result.now ≡ bytes_at s.now p }
 {
-    let from = p.at as usize;
-    let len = p.len as usize;
-    let all = s.len();
-    if all <= from {
-        return &s[all..];
-    }
-    if all - from < len {
-        return &s[from..];
-    }
-    let to = from + len;
-    &s[from..to]
+    let from = s.len().min(p.at as usize);
+    let rest = &s[from..];
+    let len = rest.len().min(p.len as usize);
+    &rest[..len]
 }
 
 // A name's place and length in one number: 65,536 is more than any place.
@@ -41,12 +34,10 @@ pub fn index_of(s: &[u8], names: &[u32], key: &[u8]) -> Option<u32>
     requires { length names.now ≤ 65536 }
     ensures { result ≡ index_from 0 key.now (names_in s.now names.now) }
 {
-    let mut i = 0;
-    while i < names.len() {
-        if same(key, name_at(s, names[i])) {
+    for (i, name) in names.iter().enumerate() {
+        if same(key, name_at(s, *name)) {
             return Some(i as u32);
         }
-        i += 1;
     }
     None
 }

@@ -37,157 +37,108 @@ fn limited(n: Option<u64>, lo: u64, hi: u64, otherwise: u8) -> Result<i64, u8>
     requires { hi < 100000000000 }
     ensures { result ≡ count_val (in_range lo hi) otherwise n }
 {
-    let Some(v) = n else {
-        return Err(10);
-    };
+    let v = n.ok_or(10)?;
     if within(lo, hi, v) {
-        return Ok(v as i64);
+        Ok(v as i64)
+    } else {
+        Err(otherwise)
     }
-    Err(otherwise)
 }
 
 // E_sym: 000 to 005 or 011 to 015.
 fn served(n: Option<u64>) -> Result<i64, u8>
     ensures { result ≡ count_val served_symbols 12 n }
 {
-    let Some(v) = n else {
-        return Err(10);
-    };
-    if within(0, 5, v) {
-        return Ok(v as i64);
+    let v = n.ok_or(10)?;
+    if within(0, 5, v) || within(11, 15, v) {
+        Ok(v as i64)
+    } else {
+        Err(12)
     }
-    if within(11, 15, v) {
-        return Ok(v as i64);
-    }
-    Err(12)
 }
 
 // E_wire: 000, or each digit within its limits.
 fn is_wire_range(n: u64) -> bool
     ensures { result ≡ served_wires n }
 {
-    if n == 0 {
-        return true;
-    }
-    if MOST_JOIN_DIGIT < n / 100 {
-        return false;
-    }
-    if MOST_WIRE_MIDDLE < n / 10 % 10 {
-        return false;
-    }
-    within(1, MOST_WIRE_LAST, n % 10)
+    n == 0
+        || n / 100 <= MOST_JOIN_DIGIT
+            && n / 10 % 10 <= MOST_WIRE_MIDDLE
+            && within(1, MOST_WIRE_LAST, n % 10)
 }
 
 fn served_wires(n: Option<u64>) -> Result<i64, u8>
     ensures { result ≡ count_val served_wires 12 n }
 {
-    let Some(v) = n else {
-        return Err(10);
-    };
+    let v = n.ok_or(10)?;
     if is_wire_range(v) {
-        return Ok(v as i64);
+        Ok(v as i64)
+    } else {
+        Err(12)
     }
-    Err(12)
 }
 
 // An angle from 0 on.
 fn turned(z: i64, most: i64) -> bool
     ensures { result ≡ (le_z (pos 0) z && le_z z most) }
 {
-    if 0 <= z {
-        return z <= most;
-    }
-    false
+    0 <= z && z <= most
 }
 
 // The sign and limit of a decimal.
 fn in_bound(bound: u64, z: i64) -> bool
     ensures { result ≡ in_bound (bound_of bound) z }
 {
-    if bound == PART_ANY_SIGN {
-        return true;
+    match bound {
+        PART_ANY_SIGN => true,
+        PART_NOT_NEGATIVE => 0 <= z,
+        PART_ABOVE_ZERO => 0 < z,
+        PART_HALF_TURN => turned(z, HALF_TURN),
+        _ => turned(z, FULL_TURN),
     }
-    if bound == PART_NOT_NEGATIVE {
-        return 0 <= z;
-    }
-    if bound == PART_ABOVE_ZERO {
-        return 0 < z;
-    }
-    if bound == PART_HALF_TURN {
-        return turned(z, HALF_TURN);
-    }
-    turned(z, FULL_TURN)
 }
 
 fn bounded(bound: u64, r: Option<Decimal>) -> Result<i64, u8>
     ensures { result ≡ reading_val (in_bound (bound_of bound)) 11 r }
 {
-    let Some(d) = r else {
-        return Err(10);
-    };
-    let z = d.value;
-    if in_bound(bound, z) {
-        return Ok(z);
-    }
-    Err(11)
-}
-
-pub(crate) fn equal(a: i64, b: i64) -> bool
-    ensures { result ≡ equal_z a b }
-{
-    if a <= b {
-        return b <= a;
-    }
-    false
+    let z = r.ok_or(10)?.value;
+    if in_bound(bound, z) { Ok(z) } else { Err(11) }
 }
 
 // A decimal of one value alone: any other is 10.
 fn exactly(n: i64, r: Option<Decimal>) -> Result<i64, u8>
     ensures { result ≡ reading_val (equal_z n) 10 r }
 {
-    let Some(d) = r else {
-        return Err(10);
-    };
-    let z = d.value;
-    if equal(n, z) {
-        return Ok(z);
-    }
-    Err(10)
+    let z = r.ok_or(10)?.value;
+    if z == n { Ok(z) } else { Err(10) }
 }
 
 // A decimal by its form.
 fn measured(code: u64, r: Option<Decimal>) -> Result<i64, u8>
     ensures { result ≡ decimal_val code r }
 {
-    if code < PART_NO_ANGLE {
-        return bounded(code, r);
+    match code {
+        PART_NO_ANGLE => exactly(0, r),
+        PART_WHOLE_TURN => exactly(FULL_TURN, r),
+        _ => bounded(code, r),
     }
-    if code == PART_NO_ANGLE {
-        return exactly(0, r);
-    }
-    if code == PART_WHOLE_TURN {
-        return exactly(FULL_TURN, r);
-    }
-    bounded(code, r)
 }
 
 fn numbered(i: Option<u32>, otherwise: u8) -> Result<i64, u8>
     ensures { result ≡ index_val otherwise i }
 {
-    match i {
-        Some(n) => Ok(n as i64),
-        None => Err(otherwise),
-    }
+    i.map(i64::from).ok_or(otherwise)
 }
 
 fn layer(s: &[u8], layers: &[u32], c: &[u8]) -> Result<i64, u8>
     requires { length layers.now ≤ 65536 }
     ensures { result ≡ val_of (read_part (known_in s.now [] layers.now) layer_id c.now) }
 {
-    if !is_layer_id(c) {
-        return Err(11);
+    if is_layer_id(c) {
+        numbered(index_of(s, layers, c), 14)
+    } else {
+        Err(11)
     }
-    numbered(index_of(s, layers, c), 14)
 }
 
 // A value that is no decimal, from all its bytes.
@@ -195,52 +146,24 @@ fn whole(code: u64, s: &[u8], symbols: &[u32], layers: &[u32], c: &[u8]) -> Resu
     requires { (length symbols.now ≤ 65536) × (length layers.now ≤ 65536) }
     ensures { result ≡ val_of (read_part (known_in s.now symbols.now layers.now) (whole_of code) c.now) }
 {
-    if code == PART_FLAG {
-        return limited(fixed(c, 1), 0, 1, 11);
+    match code {
+        PART_FLAG => limited(fixed(c, 1), 0, 1, 11),
+        PART_POSITION => limited(fixed(c, 1), 1, 5, 11),
+        PART_COUNT => limited(count(c), 0, 999999999, 10),
+        PART_DAY => limited(day(c), 0, 99999999, 10),
+        PART_CLOCK => limited(clock(c), 0, 999999, 10),
+        PART_RANGE_0 => limited(fixed(c, 3), 0, 0, 12),
+        PART_RANGE_0_1 => limited(fixed(c, 3), 0, 1, 12),
+        PART_RANGE_0_2 => limited(fixed(c, 3), 0, 2, 12),
+        PART_RANGE_1 => limited(fixed(c, 3), 1, 1, 12),
+        PART_SYMBOL_RANGE => served(fixed(c, 3)),
+        PART_SYMBOL_NAME => numbered(index_of(s, symbols, c), 13),
+        PART_LAYER_ID => layer(s, layers, c),
+        PART_WIRE_RANGE => served_wires(fixed(c, 3)),
+        PART_SIGN => limited(fixed(c, 1), 0, 4, 11),
+        PART_DIGIT => limited(fixed(c, 1), 0, 9, 11),
+        _ => limited(fixed(c, 4), 0, 9999, 10),
     }
-    if code == PART_POSITION {
-        return limited(fixed(c, 1), 1, 5, 11);
-    }
-    if code == PART_COUNT {
-        return limited(count(c), 0, 999999999, 10);
-    }
-    if code == PART_DAY {
-        return limited(day(c), 0, 99999999, 10);
-    }
-    if code == PART_CLOCK {
-        return limited(clock(c), 0, 999999, 10);
-    }
-    if code == PART_RANGE_0 {
-        return limited(fixed(c, 3), 0, 0, 12);
-    }
-    if code == PART_RANGE_0_1 {
-        return limited(fixed(c, 3), 0, 1, 12);
-    }
-    if code == PART_RANGE_0_2 {
-        return limited(fixed(c, 3), 0, 2, 12);
-    }
-    if code == PART_RANGE_1 {
-        return limited(fixed(c, 3), 1, 1, 12);
-    }
-    if code == PART_SYMBOL_RANGE {
-        return served(fixed(c, 3));
-    }
-    if code == PART_SYMBOL_NAME {
-        return numbered(index_of(s, symbols, c), 13);
-    }
-    if code == PART_LAYER_ID {
-        return layer(s, layers, c);
-    }
-    if code == PART_WIRE_RANGE {
-        return served_wires(fixed(c, 3));
-    }
-    if code == PART_SIGN {
-        return limited(fixed(c, 1), 0, 4, 11);
-    }
-    if code == PART_DIGIT {
-        return limited(fixed(c, 1), 0, 9, 11);
-    }
-    limited(fixed(c, 4), 0, 9999, 10)
 }
 
 // A value from all its bytes.
@@ -255,9 +178,10 @@ pub(crate) fn single(
     ensures { result ≡ val_of (read_part (known_in s.now symbols.now layers.now) (part_of code) c.now) }
 {
     if PART_ANY_SIGN <= code {
-        return measured(code, decimal(c));
+        measured(code, decimal(c))
+    } else {
+        whole(code, s, symbols, layers, c)
     }
-    whole(code, s, symbols, layers, c)
 }
 
 // The value in front of the first comma, and where it ends.
@@ -267,15 +191,15 @@ pub(crate) fn piece(code: u64, s: &[u8], symbols: &[u32], layers: &[u32], c: &[u
 {
     if PART_ANY_SIGN <= code {
         let d = decimal_piece(c);
-        let reading = d.reading;
-        return Piece {
-            val: measured(code, reading),
+        Piece {
+            val: measured(code, d.reading),
             end: d.end,
-        };
-    }
-    let e = find(c, b',');
-    Piece {
-        val: whole(code, s, symbols, layers, &c[..e]),
-        end: e,
+        }
+    } else {
+        let end = find(c, b',');
+        Piece {
+            val: whole(code, s, symbols, layers, &c[..end]),
+            end,
+        }
     }
 }

@@ -13,28 +13,24 @@ ghost use Rattle.entries.specs.Acts.{place_of, put_line, roomy, value_of, Acts, 
 
 use crate::contents::read_kind;
 use crate::names::part;
-use crate::shapes::{fits, inner_of, is_free, shape_for, sort_of, span_of};
-use crate::{Inner, Next, Rest, SORT_FORMLESS, SORT_NO_CONTENT, SORT_OPENER, SORT_OPENING, Shape};
+use crate::shapes::{fits, inner_of, is_free, shape_for};
+use crate::{Inner, Next, Rest, Shape};
 use rules::{Digits, Span};
-use tables::Row;
+use tables::{Row, TIMES_ONCE};
 
 fn place_of(place: u8, dump: usize) -> usize
     ensures { result ≡ place_of place dump }
 {
-    if place == 0 {
-        return dump;
-    }
-    place as usize
+    if place == 0 { dump } else { place as usize }
 }
 
 fn put_state(place: u8, z: i64, rec: &mut [i64])
     requires { place < length rec.old }
     ensures { rec.new ≡ put_state place z rec.old }
 {
-    if place == 0 {
-        return;
+    if place != 0 {
+        rec[place as usize] = z;
     }
-    rec[place as usize] = z;
 }
 
 // Content that is not empty, and that it is given.
@@ -50,7 +46,7 @@ fn put_content(
     requires { (length s.now ≤ 61440) × (length symbols.now ≤ 65536) × (length layers.now ≤ 65536) × (roomy dump (length rec.old) (rule_of row) ≡ true) }
     ensures { Puts (read_kind (known_in s.now symbols.now layers.now) (kind_of row) p.at (bytes_at s.now p)) (λ v. put_line (rule_of row) dump v rec.old) rec.new result }
 {
-    let a = read_kind(
+    read_kind(
         row,
         p.at,
         s,
@@ -59,10 +55,7 @@ fn put_content(
         part(s, p),
         place_of(row.place, dump),
         rec,
-    );
-    let Ok(()) = a else {
-        return a;
-    };
+    )?;
     put_state(row.state, 2, rec);
     Ok(())
 }
@@ -81,58 +74,44 @@ fn put_shape(
     requires { (length s.now ≤ 61440) × (length symbols.now ≤ 65536) × (length layers.now ≤ 65536) × (roomy dump (length rec.old) (rule_of row) ≡ true) }
     ensures { Puts (read_shape (known_in s.now symbols.now layers.now) row.number (rule_of row) (shape_in s.now shape)) (λ a. put_line (rule_of row) dump (value_of a) rec.old) rec.new result }
 {
-    let sort = sort_of(shape);
-    if sort == SORT_FORMLESS {
-        return Err(5);
+    match shape {
+        Shape::Formless => return Err(5),
+        Shape::Opener => put_state(row.state, 2, rec),
+        Shape::NoContent => put_state(row.state, 1, rec),
+        Shape::Content(p) | Shape::Opening(p) => {
+            put_content(row, s, symbols, layers, p, dump, rec)?
+        }
     }
-    if sort == SORT_OPENER {
-        put_state(row.state, 2, rec);
-        return Ok(());
-    }
-    if sort == SORT_NO_CONTENT {
-        put_state(row.state, 1, rec);
-        return Ok(());
-    }
-    put_content(row, s, symbols, layers, span_of(shape), dump, rec)
+    Ok(())
 }
 
 // Digits of a range or class that have at least what is asked for.
 pub fn reaches(d: Digits, least: Digits) -> bool
     ensures { result ≡ reaches d least }
 {
-    if least.middle <= d.middle {
-        return least.last <= d.last;
-    }
-    false
+    least.middle <= d.middle && least.last <= d.last
 }
 
 fn twice(times: u8, full: bool) -> bool
     ensures { not_twice (times_of times) full ≡ not result }
 {
-    if times == 0 {
-        return full;
-    }
-    false
+    times == TIMES_ONCE && full
 }
 
 // What a line that was entered does; one too many is 11.
-fn entered(row: Row, full: bool, sort: u8) -> Next
-    ensures { result ≡ next_for full row.number (inner_of (kind_of row)) sort }
+fn entered(row: Row, full: bool, shape: Shape) -> Next
+    ensures { result ≡ next_for full row.number (inner_of (kind_of row)) shape }
 {
     if full {
         return Next::Refuse(11);
     }
-    let inner = Inner {
-        block: inner_of(row),
-        row: row.number,
-    };
-    if sort == SORT_OPENER {
-        return Next::Begin(inner);
+    match shape {
+        Shape::Opener | Shape::Opening(_) => Next::Begin(Inner {
+            block: inner_of(row),
+            row: row.number,
+        }),
+        _ => Next::Entry(row.number),
     }
-    if sort == SORT_OPENING {
-        return Next::Begin(inner);
-    }
-    Next::Entry(row.number)
 }
 
 fn act_shape(
@@ -149,8 +128,7 @@ fn act_shape(
     requires { (length s.now ≤ 61440) × (length symbols.now ≤ 65536) × (length layers.now ≤ 65536) × (roomy dump (length rec.old) (rule_of row) ≡ true) }
     ensures { Acts (λ _. rule_of row) dump rec.old (act_shape (known_in s.now symbols.now layers.now) d full row.number (rule_of row) (shape_in s.now shape)) rec.new result }
 {
-    let sort = sort_of(shape);
-    if sort == SORT_FORMLESS {
+    if matches!(shape, Shape::Formless) {
         return Next::Refuse(5);
     }
     if !reaches(d, row.least) {
@@ -164,7 +142,7 @@ fn act_shape(
     }
     match put_shape(row, s, symbols, layers, shape, dump, rec) {
         Err(n) => Next::Refuse(n),
-        Ok(()) => entered(row, full, sort),
+        Ok(()) => entered(row, full, shape),
     }
 }
 

@@ -4,7 +4,7 @@ ghost use Rattle.rules.specs.Lines.{equals, bytes_at};
 ghost use Rattle.rules.specs.Values.{is_free};
 ghost use Rattle.rules.specs.Rows.{is_either, fits, inner_of};
 ghost use Rattle.tables.specs.Rows.{kind_of};
-ghost use Rattle.entries.specs.Shapes.{nothing_at, key_of, rest_of, rest_in, shape_in, shape_by, sort_of, span_of, ends_open};
+ghost use Rattle.entries.specs.Shapes.{key_of, rest_of, rest_in, shape_in, shape_by, sort_of};
 
 use crate::names::part;
 use crate::{Rest, SORT_CONTENT, SORT_FORMLESS, SORT_NO_CONTENT, SORT_OPENER, SORT_OPENING, Shape};
@@ -12,23 +12,14 @@ use leaves::bytes::spells;
 use rules::{LineForm, Span};
 use tables::{HOLDS_BLOCK, HOLDS_EITHER, HOLDS_HEADED, HOLDS_NOTHING, HOLDS_TEXT, Row};
 
-fn nowhere() -> Span
-    ensures { result ≡ nothing_at }
-{
-    Span { at: 0, len: 0 }
-}
-
 // A line's key; nothing where it has none.
 pub fn key_of(form: LineForm) -> Span
     ensures { result ≡ key_of form }
 {
     match form {
-        LineForm::Ignored => nowhere(),
-        LineForm::Close => nowhere(),
-        LineForm::Eof => nowhere(),
         LineForm::Opens(o) => o.key,
         LineForm::Equals(q) => q.key,
-        LineForm::Refused(_) => nowhere(),
+        _ => Span { at: 0, len: 0 },
     }
 }
 
@@ -37,29 +28,9 @@ pub fn rest_of(form: LineForm) -> Rest
     ensures { result ≡ rest_of form }
 {
     match form {
-        LineForm::Ignored => Rest::Brace,
-        LineForm::Close => Rest::Brace,
-        LineForm::Eof => Rest::Brace,
-        LineForm::Opens(_) => Rest::Brace,
-        LineForm::Equals(q) => {
-            let rest = q.rest;
-            Rest::Equals(rest)
-        }
-        LineForm::Refused(_) => Rest::Brace,
+        LineForm::Equals(q) => Rest::Equals(q.rest),
+        _ => Rest::Brace,
     }
-}
-
-fn ends_open(c: &[u8]) -> bool
-    ensures { result ≡ ends_open c.now }
-{
-    let n = c.len();
-    if n < 2 {
-        return false;
-    }
-    if c[n - 2] == b':' {
-        return c[n - 1] == b'{';
-    }
-    false
 }
 
 // Content that opens a block stands without the `:{`.
@@ -67,22 +38,18 @@ fn content_shape(s: &[u8], free: bool, rest: Span) -> Shape
     ensures { shape_in s.now result ≡ shape_by free (equals rest.at (bytes_at s.now rest)) }
 {
     let c = part(s, rest);
-    let n = c.len();
-    if n == 0 {
+    if c.is_empty() {
         return Shape::NoContent;
     }
-    if free {
+    if free || !c.ends_with(b":{") {
         return Shape::Content(rest);
     }
-    if !ends_open(c) {
-        return Shape::Content(rest);
-    }
-    if n == 2 {
+    if c.len() == 2 {
         return Shape::Formless;
     }
     Shape::Opening(Span {
         at: rest.at,
-        len: (n - 2) as u32,
+        len: (c.len() - 2) as u32,
     })
 }
 
@@ -109,29 +76,14 @@ pub fn sort_of(shape: Shape) -> u8
     }
 }
 
-// The places of a shape's content; nothing where it has none.
-pub(crate) fn span_of(shape: Shape) -> Span
-    ensures { result ≡ span_of shape }
-{
-    match shape {
-        Shape::Opener => nowhere(),
-        Shape::NoContent => nowhere(),
-        Shape::Content(p) => p,
-        Shape::Opening(p) => p,
-        Shape::Formless => nowhere(),
-    }
-}
-
 // `=000` alone, or 001 opening.
 fn is_either(s: &[u8], shape: Shape) -> bool
     ensures { result ≡ is_either (shape_in s.now shape) }
 {
     match shape {
-        Shape::Opener => false,
-        Shape::NoContent => false,
         Shape::Content(p) => !spells(part(s, p), b"001"),
         Shape::Opening(p) => !spells(part(s, p), b"000"),
-        Shape::Formless => false,
+        _ => false,
     }
 }
 
@@ -139,26 +91,17 @@ fn is_either(s: &[u8], shape: Shape) -> bool
 pub(crate) fn fits(row: Row, s: &[u8], shape: Shape) -> bool
     ensures { result ≡ fits (kind_of row) row.may (shape_in s.now shape) }
 {
-    let sort = sort_of(shape);
-    if row.kind == HOLDS_NOTHING {
-        return sort == SORT_NO_CONTENT;
+    match row.kind {
+        HOLDS_NOTHING => matches!(shape, Shape::NoContent),
+        HOLDS_BLOCK => matches!(shape, Shape::Opener),
+        HOLDS_HEADED => matches!(shape, Shape::Opening(_)),
+        HOLDS_EITHER => is_either(s, shape),
+        _ => match shape {
+            Shape::Content(_) => true,
+            Shape::NoContent => row.may,
+            _ => false,
+        },
     }
-    if row.kind == HOLDS_BLOCK {
-        return sort == SORT_OPENER;
-    }
-    if row.kind == HOLDS_HEADED {
-        return sort == SORT_OPENING;
-    }
-    if row.kind == HOLDS_EITHER {
-        return is_either(s, shape);
-    }
-    if sort == SORT_CONTENT {
-        return true;
-    }
-    if row.may {
-        return sort == SORT_NO_CONTENT;
-    }
-    false
 }
 
 pub(crate) fn is_free(row: Row) -> bool
@@ -171,14 +114,8 @@ pub(crate) fn is_free(row: Row) -> bool
 pub(crate) fn inner_of(row: Row) -> u8
     ensures { result ≡ inner_of (kind_of row) }
 {
-    if row.kind == HOLDS_BLOCK {
-        return row.inner;
+    match row.kind {
+        HOLDS_BLOCK | HOLDS_HEADED | HOLDS_EITHER => row.inner,
+        _ => 0,
     }
-    if row.kind == HOLDS_HEADED {
-        return row.inner;
-    }
-    if row.kind == HOLDS_EITHER {
-        return row.inner;
-    }
-    0
 }

@@ -10,7 +10,7 @@ ghost use Rattle.entries.specs.Names.{known_in};
 ghost use Rattle.entries.specs.Entering.{Puts, done_of, put_val, least_of, plainly, last_of, settled, agree_from};
 
 use crate::by_forms::forms_for;
-use crate::parts::{equal, piece};
+use crate::parts::piece;
 use crate::powers::{amount_at, served_power};
 use tables::{ACROSS_ARC, ACROSS_AXES, ACROSS_ENDS, ACROSS_POWER, Row};
 
@@ -19,29 +19,19 @@ pub(crate) fn put_value(v: Result<i64, u8>, p: usize, rec: &mut [i64]) -> Result
     requires { p < length rec.old }
     ensures { (result ≡ done_of v) × (rec.new ≡ put_val v p rec.old) }
 {
-    match v {
-        Ok(z) => {
-            rec[p] = z;
-            Ok(())
-        }
-        Err(m) => Err(m),
-    }
+    rec[p] = v?;
+    Ok(())
 }
 
 // The smaller of two numbers on one line.
 fn least(a: Result<(), u8>, b: Result<(), u8>) -> Result<(), u8>
     ensures { result ≡ least_of a b }
 {
-    let Err(m) = a else {
-        return b;
-    };
-    let Err(n) = b else {
-        return a;
-    };
-    if n < m {
-        return b;
+    match (a, b) {
+        (Err(m), Err(n)) => Err(m.min(n)),
+        (Err(_), Ok(())) => a,
+        (Ok(()), _) => b,
     }
-    a
 }
 
 // The values of c by their forms: one, and so many more; they go to the places from p on. A wrong count of values is 10, and no
@@ -86,20 +76,6 @@ fn each(
     }
 }
 
-fn equal_at(rec: &[i64], i: usize, j: usize) -> bool
-    requires { (i < length rec.now) × (j < length rec.now) }
-    ensures { result ≡ equal_z (get_or rec.now i (pos 0)) (get_or rec.now j (pos 0)) }
-{
-    equal(rec[i], rec[j])
-}
-
-fn less_at(rec: &[i64], i: usize, j: usize) -> bool
-    requires { (i < length rec.now) × (j < length rec.now) }
-    ensures { result ≡ lt_z (get_or rec.now i (pos 0)) (get_or rec.now j (pos 0)) }
-{
-    rec[i] < rec[j]
-}
-
 // The turn of a circle that was written without one, behind its six values.
 const TURN: usize = 6;
 
@@ -110,29 +86,17 @@ fn agree(across: u8, rec: &[i64], p: usize) -> bool
     requires { p + last_of (across_of across) < length rec.now }
     ensures { result ≡ agree_from (across_of across) p rec.now }
 {
-    if across == ACROSS_ENDS {
-        if equal_at(rec, p + 1, p + 3) {
-            return !equal_at(rec, p + 2, p + 4);
-        }
-        return true;
-    }
-    if across == ACROSS_ARC {
-        return !equal_at(rec, p + 4, p + 5);
-    }
-    if across == ACROSS_AXES {
-        if less_at(rec, p + 4, p + 3) {
-            return !equal_at(rec, p + 5, p + 6);
-        }
-        return false;
-    }
-    if across == ACROSS_POWER {
-        return served_power(
+    match across {
+        ACROSS_ENDS => rec[p + 1] != rec[p + 3] || rec[p + 2] != rec[p + 4],
+        ACROSS_ARC => rec[p + 4] != rec[p + 5],
+        ACROSS_AXES => rec[p + 4] < rec[p + 3] && rec[p + 5] != rec[p + 6],
+        ACROSS_POWER => served_power(
             amount_at(rec, p),
             amount_at(rec, p + 1),
             amount_at(rec, p + 2),
-        );
+        ),
+        _ => true,
     }
-    true
 }
 
 // A row's values, or those of a circle in a symbol; the rules across them are 11.
@@ -149,16 +113,14 @@ pub(crate) fn values(
     ensures { Puts (read_kind (known_in s.now symbols.now layers.now) (values_of row) 0 c.now) (λ v. sets rec.old p (numbers v)) rec.new result }
 {
     let f = forms_for(row, c);
-    let a = each(f.parts, f.more, s, symbols, layers, c, p, rec);
-    let Ok(()) = a else {
-        return a;
-    };
+    each(f.parts, f.more, s, symbols, layers, c, p, rec)?;
     if f.turnless {
         rec[p + TURN] = NO_TURN;
         return Ok(());
     }
     if agree(f.across, rec, p) {
-        return Ok(());
+        Ok(())
+    } else {
+        Err(11)
     }
-    Err(11)
 }

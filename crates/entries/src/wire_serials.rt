@@ -21,14 +21,11 @@ fn put_partner(c: &[u8], p: usize, rec: &mut [i64]) -> Result<(), u8>
     requires { p + 2 ≤ length rec.old }
     ensures { Puts (read_partner c.now) (λ v. sets rec.old p (plainly v)) rec.new result }
 {
-    if c.len() == 0 {
+    if c.is_empty() {
         put_two(PARTNER_EMPTY, 0, p, rec);
         return Ok(());
     }
-    let Some(v) = serial(c) else {
-        return Err(10);
-    };
-    put_two(PARTNER_GIVEN, v, p, rec);
+    put_two(PARTNER_GIVEN, serial(c).ok_or(10)?, p, rec);
     Ok(())
 }
 
@@ -37,12 +34,10 @@ fn put_both(first: &[u8], last: &[u8], p: usize, rec: &mut [i64]) -> Result<(), 
     requires { p + 4 ≤ length rec.old }
     ensures { Puts (read_ends (first.now ∷ split 44 last.now)) (λ v. sets rec.old p (plainly v)) rec.new result }
 {
-    if find(last, b',') < last.len() {
+    if last.contains(&b',') {
         return Err(10);
     }
-    let Ok(()) = put_partner(first, p, rec) else {
-        return Err(10);
-    };
+    put_partner(first, p, rec)?;
     put_partner(last, p + 2, rec)
 }
 
@@ -53,9 +48,10 @@ fn put_ends(c: &[u8], p: usize, rec: &mut [i64]) -> Result<(), u8>
 {
     let e = find(c, b',');
     if e < c.len() {
-        return put_both(&c[..e], &c[e + 1..], p, rec);
+        put_both(&c[..e], &c[e + 1..], p, rec)
+    } else {
+        Err(10)
     }
-    Err(10)
 }
 
 // The own number and both partners: exactly three items. Whatever is wrong is 10.
@@ -67,9 +63,6 @@ pub(crate) fn put_wire_serial(c: &[u8], p: usize, rec: &mut [i64]) -> Result<(),
     if c.len() <= e {
         return Err(10);
     }
-    let Some(v) = serial(&c[..e]) else {
-        return Err(10);
-    };
-    rec[p] = v as i64;
+    rec[p] = serial(&c[..e]).ok_or(10)? as i64;
     put_ends(&c[e + 1..], p + 1, rec)
 }

@@ -1,12 +1,8 @@
 use Prim.Native.Nat.{◌≤◌, ◌-◌}
-use mathlib.Core.Path.{◌≡◌, refl, sym, ◌∙◌}
-use native.Mathlib.Omega.{arith}
-use borrow.Author.Rules.{rules}
-use borrow.Author.Tests.{not-true, not-false}
+use mathlib.Core.Path.{◌≡◌}
 use lib.ListN.{length, drop}
 use Rattle.rules.specs.Rows.{complete as completeOf}
 use Rattle.tables.specs.Tables.{table_of}
-use Rattle.entries.proofs.TableActs.{complete-step, complete-not, complete-end}
 use Rattle.entries.proofs.acts.complete.Given as goal
 
 abbrev pub invariant-loop-i : goal.invariant-loop-i

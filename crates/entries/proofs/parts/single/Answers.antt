@@ -1,25 +1,12 @@
 use mathlib.Core.Path.{ap, ◌∙◌}
-use borrow.Author.Tests.{lt-ltb, le-ltb}
+use borrow.Author.Tests.{le-ltb}
 use Rattle.entries.specs.Names.{known_in}
 use Rattle.entries.specs.Parts.{decimal_val}
 use Rattle.entries.proofs.OneValue.{decimal-val}
-use borrow.Author.Rules.{rules}
 use Rattle.entries.proofs.parts.single.Goals as goal
-
-pub decimal-requires : goal.decimal-requires
-decimal-requires c = search rules
-
-pub measured-requires : goal.measured-requires
-measured-requires c = search rules
 
 pub returns-then-code-ge-PART_ANY_SIGN : goal.returns-then-code-ge-PART_ANY_SIGN
 returns-then-code-ge-PART_ANY_SIGN c =
     let a = c.args in
     rw (le-ltb a.code 20 c.if-code-ge-PART_ANY_SIGN.true)
     (c.measured.ensures ∙ ap (decimal_val a.code) c.decimal.ensures ∙ decimal-val (known_in a.s.now a.symbols.now a.layers.now) a.code a.c.now)
-
-pub whole-requires : goal.whole-requires
-whole-requires c = search rules
-
-pub returns : goal.returns
-returns c = rw (lt-ltb c.args.code 20 c.if-code-ge-PART_ANY_SIGN.false) c.whole.ensures

@@ -5,7 +5,6 @@ use Rattle.rules.specs.Blocks.{range_table}
 use Rattle.rules.proofs.Rows.{reaches-none}
 use Rattle.tables.specs.Tables.{table_of}
 use Rattle.entries.proofs.TableActs.{others-unwanted}
-use borrow.Author.Rules.{rules}
 use Rattle.entries.proofs.required.range_wants.Goals as goal
 
 -- Made by tools/make-keys from the definitions' rows: change those, or the script.

@@ -2,7 +2,7 @@ use mathlib.Core.Path.{◌∙◌}
 use native.Mathlib.Omega.{arith}
 use borrow.Author.Rules.{rules}
 use Rattle.entries.specs.Names.{known_in}
-use Rattle.entries.proofs.EachValue.{Going, going_start, piece-within, going-few, going-many, going-last, going_more}
+use Rattle.entries.proofs.EachValue.{going_start, piece-within, going-few, going-many, going-last, going_more}
 use Rattle.entries.proofs.values.each.Goals as goal
 
 pub loop-v-init : goal.loop-v-init

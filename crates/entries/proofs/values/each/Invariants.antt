@@ -1,8 +1,5 @@
-use mathlib.Core.Path.{◌∙◌}
-use native.Mathlib.Omega.{arith}
-use borrow.Author.Rules.{rules}
 use Rattle.entries.specs.Names.{known_in}
-use Rattle.entries.proofs.EachValue.{Going, going_start, piece-within, going-few, going-many, going-last, going_more}
+use Rattle.entries.proofs.EachValue.{Going}
 use Rattle.entries.proofs.values.each.Given as goal
 
 abbrev pub invariant-loop-v : goal.invariant-loop-v

@@ -1,40 +1,33 @@
+use mathlib.Core.Path.{◌≡◌, refl}
+use mathlib.Core.Bool.{true, false}
+use Rattle.std.proofs.Common.{rules}
+use lib.Dec.{eqb}
+use lib.ListN.{length}
+use Rattle.std.specs.List.{list_any}
+use Rattle.std.specs.Prelude.{Ok, Err}
+use Rattle.leaves.specs.Bytes.{up_to}
+use Rattle.entries.proofs.Commas.{comma-some, comma-none}
 use Rattle.entries.proofs.WireSerials.{ends-many, ends-bad, ends-put}
-use borrow.Author.Rules.{rules}
 use Rattle.entries.proofs.wire_serials.put_both.Goals as goal
 
-pub find-requires : goal.find-requires
-find-requires c = search rules
-
-pub returns-then-find-last : goal.returns-then-find-last
-returns-then-find-last c = let a = c.args in ends-many a.first.now a.last.now a.rec.now a.p c.find.result c.find.ensures _ c.if-find-last.true
-
-pub put_partner-requires : goal.put_partner-requires
-put_partner-requires c = search rules
-
-pub enum_told-1 : goal.enum_told-1
-enum_told-1 c = search rules
-
-pub enum_told-in_default : goal.enum_told-in_default
-enum_told-in_default c = search rules
-
-pub shape_of-rec-in_default : goal.shape_of-rec-in_default
-shape_of-rec-in_default c = search rules
-
-pub returns-in_default : goal.returns-in_default
-returns-in_default c =
+pub returns-then-contains : goal.returns-then-contains
+returns-then-contains c =
     let a = c.args in
-    ends-bad a.first.now a.last.now a.rec.now a.p c.find.result c.find.ensures _ _ _ c.if-find-last.false (rw c.in_default.is at c.put_partner.ensures)
+    let h : list_any (λ b. eqb b 44) a.last.now ≡ true = search rules in
+    ends-many a.first.now a.last.now a.rec.now a.p (length (up_to 44 a.last.now)) refl _ (comma-some a.last.now h)
 
-pub overflow_add-p : goal.overflow_add-p
-overflow_add-p c = search rules
-
-pub put_partner-requires-2 : goal.put_partner-requires-2
-put_partner-requires-2 c = search rules
-
-pub shape_of-rec : goal.shape_of-rec
-shape_of-rec c = search rules
+pub returns-in_err-put_partner : goal.returns-in_err-put_partner
+returns-in_err-put_partner c =
+    let a = c.args in
+    let h : list_any (λ b. eqb b 44) a.last.now ≡ false = search rules in
+    let n = c.in_err-put_partner.field-0.0 in
+    let e : c.from_residual.result ≡ Err n = search rules in
+    let d : c.put_partner.result ≡ Err n = search rules in
+    rw e (ends-bad a.first.now a.last.now a.rec.now a.p (length (up_to 44 a.last.now)) refl _ _ n (comma-none a.last.now h) (rw d at c.put_partner.ensures))
 
 pub returns : goal.returns
 returns c =
     let a = c.args in
-    ends-put a.first.now a.last.now a.rec.now a.p c.find.result c.find.ensures _ _ _ c.if-find-last.false (rw c.in-Ok.is at c.put_partner.ensures) c.put_partner-2.ensures
+    let h : list_any (λ b. eqb b 44) a.last.now ≡ false = search rules in
+    let e : c.put_partner.result ≡ Ok tt = search rules in
+    ends-put a.first.now a.last.now a.rec.now a.p (length (up_to 44 a.last.now)) refl _ _ _ (comma-none a.last.now h) (rw e at c.put_partner.ensures) c.put_partner-2.ensures
