@@ -27,7 +27,7 @@ FormFits (keyed k (equals p c)) = (length k + 1 + length c ≤ 512) × (allowed 
 -- the writing stands at the state behind the line, or what is shown there has no room
 abbrev pub LineOut : Known → List ℕ → Bool → State → List ℕ → List ℕ → Result Pen NoRoom → Type 0
 LineOut K spool first st ns out (Ok p) = Pens K spool first p ns out st
-LineOut K spool first st ns out (Err no_room) = length out < length (line_bytes (shown K first st))
+LineOut K spool first st ns out (Err _) = length out < length (line_bytes (shown K first st))
 
 -- at class 15 with wire part 18, as the rewriter reads; fs: the forms of the lines behind this one
 abbrev pub DrawPromise : List ℕ → List ℕ → ℕ → ℕ → Bool → LineForm → Pen → List ℕ → List ℕ → List ℕ → List ℕ → Result Pen NoRoom → Type 0

@@ -36,4 +36,4 @@ pub record Safe (p : Pen) (out : List ℕ) : Type 0 where
 
 abbrev pub SafeAfter : Result Pen NoRoom → List ℕ → Type 0
 SafeAfter (Ok p) out = Safe p out
-SafeAfter (Err no_room) out = Unit {0}
+SafeAfter (Err _) out = Unit {0}

@@ -1,9 +1,5 @@
 use borrow.Author.Tests.{ne_eqb}
-use borrow.Author.Rules.{rules}
 use Rattle.pens.proofs.closing.around_block.Goals as goal
-
-pub by_home-requires : goal.by_home-requires
-by_home-requires c = search rules
 
 pub returns-then-pen-eq-BLOCK_FIGURES : goal.returns-then-pen-eq-BLOCK_FIGURES
 returns-then-pen-eq-BLOCK_FIGURES c = rw c.if-pen-eq-BLOCK_FIGURES.true c.by_home.ensures

@@ -6,26 +6,7 @@ use lib.ListN.{length}
 use Rattle.pens.specs.Closing.{shut_bytes, drawing_rows}
 use Rattle.pens.proofs.Writers.{room-left, kept-long, kept_full, kept_then, lays, room-lacks, inserted, inserted-none, turned_same, turned-room}
 use Rattle.pens.proofs.Closings.{shut_at, safe-there, tables-some, drawing-part}
-use borrow.Author.Rules.{rules}
 use Rattle.pens.proofs.closing.close_drawing.Goals as goal
-
-pub slice_bounds-put_rows-count : goal.slice_bounds-put_rows-count
-slice_bounds-put_rows-count c = search rules
-
-pub slice_bounds-put_rows-start : goal.slice_bounds-put_rows-start
-slice_bounds-put_rows-start c = search rules
-
-pub slice_bounds-put_rows-end : goal.slice_bounds-put_rows-end
-slice_bounds-put_rows-end c = search rules
-
-pub put_rows-requires : goal.put_rows-requires
-put_rows-requires c = search rules
-
-pub enum_told-1 : goal.enum_told-1
-enum_told-1 c = search rules
-
-pub enum_known-n : goal.enum_known-n
-enum_known-n c = search rules
 
 pub overflow_add-to : goal.overflow_add-to
 overflow_add-to c =
@@ -33,24 +14,12 @@ overflow_add-to c =
     let pre = c.requires in
     record { fits = omega (arith, room-left args.out.now args.pen.at pre.within _ _ c.put_rows.ensures.0 c.in-Ok.n c.in-Ok.is) }
 
-pub slice_bounds-exchange-count : goal.slice_bounds-exchange-count
-slice_bounds-exchange-count c = search rules
-
-pub slice_bounds-exchange-start : goal.slice_bounds-exchange-start
-slice_bounds-exchange-start c = search rules
-
 pub slice_bounds-exchange-end : goal.slice_bounds-exchange-end
 slice_bounds-exchange-end c =
     let args = c.args in
     let pre = c.requires in
     let the-put-rows = c.put_rows in
     omega (arith, room-left args.out.now args.pen.at pre.within _ _ the-put-rows.ensures.0 c.in-Ok.n c.in-Ok.is, kept-long args.out.now args.pen.at pre.within _ _ the-put-rows.ensures.0)
-
-pub overflow_sub-middle : goal.overflow_sub-middle
-overflow_sub-middle c = search rules
-
-pub exchange-requires : goal.exchange-requires
-exchange-requires c = search rules
 
 pub at_block-requires : goal.at_block-requires
 at_block-requires c =
@@ -66,18 +35,12 @@ shut-requires c =
     let the-put-rows = c.put_rows in
     safe-there args.pen _ c.in-Ok.n 2 c.at_block.ensures _ pre.begun (turned-room args.out.now args.pen.at pre.within _ _ the-put-rows.ensures.0 c.in-Ok.n c.in-Ok.is args.pen.start _ c.exchange.ensures)
 
-pub shape_of-out-in-Err : goal.shape_of-out-in-Err
-shape_of-out-in-Err c = search rules
-
 pub returns-in-Err : goal.returns-in-Err
 returns-in-Err c =
     let args = c.args in
     let pre = c.requires in
     let the-put-rows = c.put_rows in
     (kept_full args.out.now args.pen.at pre.within _ _ the-put-rows.ensures.0, λ k s z. inserted-none (drawing_rows k s) shut_bytes args.pen.start args.pen.at _ args.out.now _ (room-lacks args.out.now args.pen.at pre.within _ _ _ (the-put-rows.ensures.1 refl k (s ∷ []) 0 (drawing-part _ k _ s z) (tables-some 7) refl) c.in-Err.is))
-
-pub shape_of-out-in-Ok : goal.shape_of-out-in-Ok
-shape_of-out-in-Ok c = search rules
 
 pub returns-in-Ok : goal.returns-in-Ok
 returns-in-Ok c =

@@ -7,23 +7,7 @@ use lib.ListN.{length, length-append}
 use Rattle.pens.specs.Closing.{shut_bytes}
 use Rattle.pens.proofs.Writers.{room-left, kept-long, kept_full, kept_then, lays, room-lacks, drawn_then}
 use Rattle.pens.proofs.Closings.{shut_at, shut_none, safe-there, tables-some}
-use borrow.Author.Rules.{rules}
 use Rattle.pens.proofs.closing.close_rows.Goals as goal
-
-pub slice_bounds-put_rows-count : goal.slice_bounds-put_rows-count
-slice_bounds-put_rows-count c = search rules
-
-pub slice_bounds-put_rows-start : goal.slice_bounds-put_rows-start
-slice_bounds-put_rows-start c = search rules
-
-pub slice_bounds-put_rows-end : goal.slice_bounds-put_rows-end
-slice_bounds-put_rows-end c = search rules
-
-pub put_rows-requires : goal.put_rows-requires
-put_rows-requires c = search rules
-
-pub enum_known-n : goal.enum_known-n
-enum_known-n c = search rules
 
 pub at_block-requires : goal.at_block-requires
 at_block-requires c =
@@ -38,21 +22,12 @@ shut-requires c =
     let the-put-rows = c.put_rows in
     safe-there args.pen _ c.in-Ok.n args.block c.at_block.ensures _ pre.0.begun (omega (arith, room-left args.out.now args.pen.at pre.0.within _ _ the-put-rows.ensures.0 c.in-Ok.n c.in-Ok.is, kept-long args.out.now args.pen.at pre.0.within _ _ the-put-rows.ensures.0))
 
-pub enum_told-1 : goal.enum_told-1
-enum_told-1 c = search rules
-
-pub shape_of-out-in-Ok : goal.shape_of-out-in-Ok
-shape_of-out-in-Ok c = search rules
-
 pub returns-in-Ok : goal.returns-in-Ok
 returns-in-Ok c =
     let args = c.args in
     let pre = c.requires in
     let the-put-rows = c.put_rows in
     (kept_then _ _ _ _ (kept-long args.out.now args.pen.at pre.0.within _ _ the-put-rows.ensures.0) c.shut.ensures.0, λ k h z. let l = lays args.out.now args.pen.at pre.0.within _ _ (line_bytes (show_depth k (tables_of args.base) h 3 0 [])) (the-put-rows.ensures.1 pre.1 k h 0 z (tables-some args.base) refl) c.in-Ok.n c.in-Ok.is in drawn_then (line_bytes (show_depth k (tables_of args.base) h 3 0 [])) c.in-Ok.n args.pen.at args.out.now _ l shut_bytes _ _ _ (shut_at args.pen _ c.in-Ok.n args.block c.at_block.ensures (length ((line_bytes (show_depth k (tables_of args.base) h 3 0 [])) ++ shut_bytes)) args.block _ _ _ _ (length-append (line_bytes (show_depth k (tables_of args.base) h 3 0 [])) shut_bytes ∙ omega (arith, l.size)) refl c.shut.ensures.1))
-
-pub shape_of-out-in-Err : goal.shape_of-out-in-Err
-shape_of-out-in-Err c = search rules
 
 pub returns-in-Err : goal.returns-in-Err
 returns-in-Err c =

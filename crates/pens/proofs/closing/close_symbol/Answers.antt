@@ -7,32 +7,7 @@ use mathlib.Core.List.{◌++◌}
 use lib.ListN.{length}
 use Rattle.pens.proofs.Writers.{room-left, kept-long, kept_full, kept_then, lays, room-lacks, drawn_then, inserted, inserted-none, turned-room, last-same, last-room, last-full, last-lays, last_none}
 use Rattle.pens.proofs.Closings.{shut_at, shut_none, safe-there, name-row, wall-row}
-use borrow.Author.Rules.{rules}
 use Rattle.pens.proofs.closing.close_symbol.Goals as goal
-
-pub bounds-notes-0 : goal.bounds-notes-0
-bounds-notes-0 c = search rules
-
-pub slice_bounds-put_noted-count : goal.slice_bounds-put_noted-count
-slice_bounds-put_noted-count c = search rules
-
-pub slice_bounds-put_noted-start : goal.slice_bounds-put_noted-start
-slice_bounds-put_noted-start c = search rules
-
-pub slice_bounds-put_noted-end : goal.slice_bounds-put_noted-end
-slice_bounds-put_noted-end c = search rules
-
-pub put_noted-named-requires : goal.put_noted-named-requires
-put_noted-named-requires c = search rules
-
-pub enum_known-named : goal.enum_known-named
-enum_known-named c = search rules
-
-pub enum_told-1 : goal.enum_told-1
-enum_told-1 c = search rules
-
-pub shape_of-out-in_default : goal.shape_of-out-in_default
-shape_of-out-in_default c = search rules
 
 pub returns-in_default : goal.returns-in_default
 returns-in_default c =
@@ -47,27 +22,12 @@ overflow_add-to c =
     let pre = c.requires in
     record { fits = omega (arith, room-left args.out.now args.pen.at pre.0.within _ _ c.put_noted-named.ensures.0 c.in-Ok.n c.in-Ok.is) }
 
-pub slice_bounds-exchange-count : goal.slice_bounds-exchange-count
-slice_bounds-exchange-count c = search rules
-
-pub slice_bounds-exchange-start : goal.slice_bounds-exchange-start
-slice_bounds-exchange-start c = search rules
-
 pub slice_bounds-exchange-end : goal.slice_bounds-exchange-end
 slice_bounds-exchange-end c =
     let args = c.args in
     let pre = c.requires in
     let the-put-noted = c.put_noted-named in
     omega (arith, room-left args.out.now args.pen.at pre.0.within _ _ the-put-noted.ensures.0 c.in-Ok.n c.in-Ok.is, kept-long args.out.now args.pen.at pre.0.within _ _ the-put-noted.ensures.0)
-
-pub overflow_sub-middle : goal.overflow_sub-middle
-overflow_sub-middle c = search rules
-
-pub exchange-requires : goal.exchange-requires
-exchange-requires c = search rules
-
-pub bounds-notes-3 : goal.bounds-notes-3
-bounds-notes-3 c = search rules
 
 pub slice_bounds-put_noted-count-2 : goal.slice_bounds-put_noted-count-2
 slice_bounds-put_noted-count-2 c =
@@ -82,21 +42,6 @@ slice_bounds-put_noted-start-2 c =
     let pre = c.requires in
     let the-put-noted = c.put_noted-named in
     turned-room args.out.now args.pen.at pre.0.within _ _ the-put-noted.ensures.0 c.in-Ok.n c.in-Ok.is args.pen.start _ c.exchange.ensures
-
-pub slice_bounds-put_noted-end-2 : goal.slice_bounds-put_noted-end-2
-slice_bounds-put_noted-end-2 c = search rules
-
-pub put_noted-walled-requires : goal.put_noted-walled-requires
-put_noted-walled-requires c = search rules
-
-pub enum_known-walled : goal.enum_known-walled
-enum_known-walled c = search rules
-
-pub enum_told-in_default-walled : goal.enum_told-in_default-walled
-enum_told-in_default-walled c = search rules
-
-pub shape_of-out-in_default-walled : goal.shape_of-out-in_default-walled
-shape_of-out-in_default-walled c = search rules
 
 pub returns-in_default-walled : goal.returns-in_default-walled
 returns-in_default-walled c =
@@ -121,9 +66,6 @@ shut-requires c =
     let the-exchange = c.exchange in
     let the-put-noted2 = c.put_noted-walled in
     safe-there args.pen _ (c.in-Ok.n + c.in-Ok-walled.m) 5 c.at_block.ensures _ pre.0.begun (omega (arith, last-room args.out.now args.pen.at pre.0.within _ _ the-put-noted.ensures.0 c.in-Ok.n c.in-Ok.is args.pen.start _ the-exchange.ensures _ _ the-put-noted2.ensures.0 c.in-Ok-walled.m c.in-Ok-walled.is, last-same args.out.now args.pen.at pre.0.within _ _ the-put-noted.ensures.0 c.in-Ok.n c.in-Ok.is args.pen.start _ the-exchange.ensures _ _ the-put-noted2.ensures.0))
-
-pub shape_of-out : goal.shape_of-out
-shape_of-out c = search rules
 
 pub returns : goal.returns
 returns c =

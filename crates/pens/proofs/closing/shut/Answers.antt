@@ -3,23 +3,7 @@ use mathlib.Core.Path.{refl}
 use native.Mathlib.Omega.{arith}
 use Rattle.pens.proofs.Writers.{room-left, kept-go, kept_full, lays, room-lacks, drawn-go, drawn-none}
 use Rattle.pens.specs.Moves.{moved}
-use borrow.Author.Rules.{rules}
 use Rattle.pens.proofs.closing.shut.Goals as goal
-
-pub slice_bounds-put_plain-count : goal.slice_bounds-put_plain-count
-slice_bounds-put_plain-count c = search rules
-
-pub slice_bounds-put_plain-start : goal.slice_bounds-put_plain-start
-slice_bounds-put_plain-start c = search rules
-
-pub slice_bounds-put_plain-end-2 : goal.slice_bounds-put_plain-end-2
-slice_bounds-put_plain-end-2 c = search rules
-
-pub put_plain-requires : goal.put_plain-requires
-put_plain-requires c = search rules
-
-pub enum_known-n : goal.enum_known-n
-enum_known-n c = search rules
 
 pub at_block-requires : goal.at_block-requires
 at_block-requires c =
@@ -27,21 +11,12 @@ at_block-requires c =
     let pre = c.requires in
     omega (arith, room-left args.out.now args.pen.at pre.within _ _ c.put_plain.ensures.0 c.in-Ok.n c.in-Ok.is)
 
-pub enum_told-1 : goal.enum_told-1
-enum_told-1 c = search rules
-
-pub shape_of-out-in-Ok : goal.shape_of-out-in-Ok
-shape_of-out-in-Ok c = search rules
-
 pub returns-in-Ok : goal.returns-in-Ok
 returns-in-Ok c =
     let args = c.args in
     let pre = c.requires in
     let the-put-plain = c.put_plain in
     (kept-go args.out.now args.pen.at pre.within _ _ the-put-plain.ensures.0 c.in-Ok.n (moved args.pen c.in-Ok.n args.block 0) _ c.in-Ok.is c.at_block.ensures (omega (arith, pre.begun)) refl, drawn-go _ _ _ _ _ (lays args.out.now args.pen.at pre.within _ _ _ the-put-plain.ensures.1 c.in-Ok.n c.in-Ok.is) (λ (m : ℕ). moved args.pen (m) args.block 0) _ c.at_block.ensures)
-
-pub shape_of-out-in-Err : goal.shape_of-out-in-Err
-shape_of-out-in-Err c = search rules
 
 pub returns-in-Err : goal.returns-in-Err
 returns-in-Err c =

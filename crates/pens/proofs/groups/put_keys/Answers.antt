@@ -3,14 +3,10 @@ use native.Mathlib.Omega.{arith}
 use Rattle.pens.proofs.Behind.{within-full}
 use Rattle.pens.proofs.Writers.{kept-long, room-left}
 use Rattle.pens.proofs.KeysLaws.{keys-begin, keys-within, keys-end, keys-more, keys-full}
-use borrow.Author.Rules.{rules}
 use Rattle.pens.proofs.groups.put_keys.Goals as goal
 
 pub loop-j-init : goal.loop-j-init
 loop-j-init c = keys-begin _ _ _ _ _ _
-
-pub overflow_cast-j : goal.overflow_cast-j
-overflow_cast-j c = search rules
 
 pub slice_bounds-put_lines-count : goal.slice_bounds-put_lines-count
 slice_bounds-put_lines-count c = omega (arith, c.loop-j.invariant.within, c.loop-j.invariant.long)
@@ -20,15 +16,6 @@ slice_bounds-put_lines-start c = omega (arith, c.loop-j.invariant.within, c.loop
 
 pub slice_bounds-put_lines-end : goal.slice_bounds-put_lines-end
 slice_bounds-put_lines-end c = omega (arith, c.loop-j.invariant.within, c.loop-j.invariant.long)
-
-pub put_lines-requires : goal.put_lines-requires
-put_lines-requires c = search rules
-
-pub enum_known-m : goal.enum_known-m
-enum_known-m c = search rules
-
-pub enum_told-1 : goal.enum_told-1
-enum_told-1 c = search rules
 
 pub shape_of-out-in_default : goal.shape_of-out-in_default
 shape_of-out-in_default c = kept-long c.loop-j.out c.loop-j.n (omega (arith, c.loop-j.invariant.within, c.loop-j.invariant.long)) _ _ c.put_lines.ensures.0 ∙ c.loop-j.invariant.long

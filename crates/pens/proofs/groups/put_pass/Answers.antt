@@ -7,32 +7,16 @@ use Rattle.pens.proofs.Behind.{within-full}
 use Rattle.pens.proofs.Writers.{kept-long, room-left}
 use Rattle.pens.proofs.LinesLeft.{fewer-none, fewer}
 use Rattle.pens.proofs.PassLaws.{pass-begins, pass-ends, pass-over, pass-full, pass_on, pass-within}
-use borrow.Author.Rules.{rules}
 use Rattle.pens.proofs.groups.put_pass.Goals as goal
-
-pub no_text-amid-requires : goal.no_text-amid-requires
-no_text-amid-requires c = search rules
 
 pub loop-going-init : goal.loop-going-init
 loop-going-init c = pass-begins _ _ _ _ _ _ _ c.no_text-amid.ensures (omega arith)
-
-pub look-requires : goal.look-requires
-look-requires c = search rules
-
-pub enum_told-1 : goal.enum_told-1
-enum_told-1 c = search rules
 
 pub loop-going-smaller-in-None : goal.loop-going-smaller-in-None
 loop-going-smaller-in-None c = fewer-none (c.args.start + length c.args.body.now) c.loop-going.at c.loop-going.going c.loop-going-test.true
 
 pub loop-going-preserved-in-None : goal.loop-going-preserved-in-None
 loop-going-preserved-in-None c = pass-ends _ _ _ _ _ _ _ _ _ _ _ c.loop-going.invariant c.loop-going-test.true (sym c.look.ensures ∙ c.in-None.is)
-
-pub enum_known-seen : goal.enum_known-seen
-enum_known-seen c = search rules
-
-pub row_here-found-requires : goal.row_here-found-requires
-row_here-found-requires c = search rules
 
 pub slice_bounds-put_line-count : goal.slice_bounds-put_line-count
 slice_bounds-put_line-count c = omega (arith, c.loop-going.invariant.within, c.loop-going.invariant.long)
@@ -42,15 +26,6 @@ slice_bounds-put_line-start c = omega (arith, c.loop-going.invariant.within, c.l
 
 pub slice_bounds-put_line-end : goal.slice_bounds-put_line-end
 slice_bounds-put_line-end c = omega (arith, c.loop-going.invariant.within, c.loop-going.invariant.long)
-
-pub put_line-requires : goal.put_line-requires
-put_line-requires c = search rules
-
-pub enum_known-m : goal.enum_known-m
-enum_known-m c = search rules
-
-pub enum_told-in_default : goal.enum_told-in_default
-enum_told-in_default c = search rules
 
 pub shape_of-out-in_default : goal.shape_of-out-in_default
 shape_of-out-in_default c = kept-long c.loop-going.out c.loop-going.n (omega (arith, c.loop-going.invariant.within, c.loop-going.invariant.long)) _ _ c.put_line.ensures.0 ∙ c.loop-going.invariant.long
@@ -63,12 +38,6 @@ returns-in_default c = (
 
 pub overflow_add-n : goal.overflow_add-n
 overflow_add-n c = omega (arith, c.loop-going.invariant.small, c.loop-going.invariant.long, room-left c.loop-going.out c.loop-going.n (omega (arith, c.loop-going.invariant.within, c.loop-going.invariant.long)) _ _ c.put_line.ensures.0 c.in-Ok.m c.in-Ok.is)
-
-pub is_over-going-requires : goal.is_over-going-requires
-is_over-going-requires c = search rules
-
-pub opened_behind-amid-requires : goal.opened_behind-amid-requires
-opened_behind-amid-requires c = search rules
 
 pub loop-going-smaller : goal.loop-going-smaller
 loop-going-smaller c = fewer c.args.body.now c.args.start c.loop-going.at c.loop-going.going (not c.is_over-going.result) c.in-Some.seen c.loop-going-test.true (sym c.look.ensures ∙ c.in-Some.is)

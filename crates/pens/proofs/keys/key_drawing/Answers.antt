@@ -5,14 +5,7 @@ use mathlib.Core.Path.{refl, sym, ◌∙◌}
 use Prim.Native.Nat.{ℕ, ◌+◌}
 use Rattle.pens.proofs.Writers.{kept-still}
 use Rattle.pens.specs.Moves.{moved}
-use borrow.Author.Rules.{rules}
 use Rattle.pens.proofs.keys.key_drawing.Goals as goal
-
-pub put_at_once-requires : goal.put_at_once-requires
-put_at_once-requires c = search rules
-
-pub shape_of-out-then-row-eq-ROW_LAYER_NAME : goal.shape_of-out-then-row-eq-ROW_LAYER_NAME
-shape_of-out-then-row-eq-ROW_LAYER_NAME c = search rules
 
 pub returns-then-row-eq-ROW_LAYER_NAME : goal.returns-then-row-eq-ROW_LAYER_NAME
 returns-then-row-eq-ROW_LAYER_NAME c =
@@ -21,12 +14,6 @@ returns-then-row-eq-ROW_LAYER_NAME c =
     let the-if1 = c.if-row-eq-ROW_LAYER_NAME in
     let the-put-at-once = c.put_at_once in
     (the-put-at-once.ensures.0, refl, λ k q v i g. written _ args.pen args.rest k args.row.number q v _ _ (λ (n : ℕ). moved args.pen n 3 0) _ _ _ (rw (pre.1, the-if1.true)) (rw (pre.1, the-if1.true)) (sym (rw (pre.1, the-if1.true))) (the-put-at-once.ensures.1 k q v i g))
-
-pub note-requires : goal.note-requires
-note-requires c = search rules
-
-pub shape_of-notes : goal.shape_of-notes
-shape_of-notes c = search rules
 
 pub returns : goal.returns
 returns c =

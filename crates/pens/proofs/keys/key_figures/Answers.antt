@@ -8,23 +8,7 @@ use mathlib.Core.Path.{sym, ◌∙◌, ap}
 use Prim.Native.Nat.{ℕ}
 use lib.ListN.{length}
 use Rattle.pens.specs.Moves.{moved}
-use borrow.Author.Rules.{rules}
 use Rattle.pens.proofs.keys.key_figures.Goals as goal
-
-pub figure_block-block-requires : goal.figure_block-block-requires
-figure_block-block-requires c = search rules
-
-pub forget_for-requires : goal.forget_for-requires
-forget_for-requires c = search rules
-
-pub put_at_once-requires : goal.put_at_once-requires
-put_at_once-requires c = search rules
-
-pub shape_of-notes : goal.shape_of-notes
-shape_of-notes c = search rules
-
-pub shape_of-out : goal.shape_of-out
-shape_of-out c = search rules
 
 pub returns : goal.returns
 returns c =

@@ -7,20 +7,7 @@ use Rattle.pens.specs.Moves.{file_pen, moved}
 use mathlib.Core.Path.{sym, ◌∙◌, ap}
 use Prim.Native.Nat.{◌+◌}
 use Rattle.pens.proofs.Writers.{kept-still, kept-moved}
-use borrow.Author.Rules.{rules}
 use Rattle.pens.proofs.keys.key_file.Goals as goal
-
-pub note-requires : goal.note-requires
-note-requires c = search rules
-
-pub opens-requires : goal.opens-requires
-opens-requires c = search rules
-
-pub at_block-requires : goal.at_block-requires
-at_block-requires c = search rules
-
-pub shape_of-notes-then-opens : goal.shape_of-notes-then-opens
-shape_of-notes-then-opens c = search rules
 
 pub returns-then-opens : goal.returns-then-opens
 returns-then-opens c =
@@ -28,9 +15,6 @@ returns-then-opens c =
     let pre = c.requires in
     let the-note = c.note in
     (kept-moved _ args.pen _ _ _ pre.0 c.at_block.ensures, noted-long args.notes.now _ (notes_from args.table + args.row.number) (note_of args.rest) the-note.ensures, λ k q v i g. held_back _ args.pen args.rest k args.row.number q v _ _ c.at_block.result _ pre.0.within (rw pre.1) (file_pen_lem args.pen args.row.number q.holds (opens_block q.holds v) (inner_of q.holds) 0 pre.1 ∙ ap (λ (b : Bool). file_pen args.pen b (inner_of q.holds)) (sym (c.opens.ensures k q v i.rule g) ∙ c.if-opens.true) ∙ ap (moved args.pen 0 1) (opened-inner args.row q v i.rule (sym (c.opens.ensures k q v i.rule g) ∙ c.if-opens.true)) ∙ sym c.at_block.ensures) (the-note.ensures ∙ sym (rw pre.1)))
-
-pub shape_of-notes : goal.shape_of-notes
-shape_of-notes c = search rules
 
 pub returns : goal.returns
 returns c =

@@ -9,17 +9,7 @@ use Rattle.pens.specs.Moves.{placed_pen, moved}
 use mathlib.Core.Path.{sym, ◌∙◌, ap}
 use Prim.Native.Nat.{◌+◌}
 use Rattle.pens.proofs.Writers.{kept-still, kept-moved}
-use borrow.Author.Rules.{rules}
 use Rattle.pens.proofs.keys.key_placed.Goals as goal
-
-pub note-requires : goal.note-requires
-note-requires c = search rules
-
-pub at_block-requires : goal.at_block-requires
-at_block-requires c = search rules
-
-pub shape_of-notes-then-row-eq-HOLDS_BLOCK : goal.shape_of-notes-then-row-eq-HOLDS_BLOCK
-shape_of-notes-then-row-eq-HOLDS_BLOCK c = search rules
 
 pub returns-then-row-eq-HOLDS_BLOCK : goal.returns-then-row-eq-HOLDS_BLOCK
 returns-then-row-eq-HOLDS_BLOCK c =
@@ -27,9 +17,6 @@ returns-then-row-eq-HOLDS_BLOCK c =
     let pre = c.requires in
     let the-note = c.note in
     (kept-moved _ args.pen _ _ _ pre.0 c.at_block.ensures, noted-long args.notes.now _ (notes_from args.table + args.row.number) (note_of args.rest) the-note.ensures, λ k q v i g. held_back _ args.pen args.rest k args.row.number q v _ _ c.at_block.result _ pre.0.within (rw pre.1) (placed_pen_lem args.pen args.row.number q.holds (opens_block q.holds v) (inner_of q.holds) 0 pre.1 ∙ ap (λ (d : Kind). placed_pen args.pen d) (sym (holds-is _ _ q _ i)) ∙ rw c.if-row-eq-HOLDS_BLOCK.true (sym c.at_block.ensures)) (the-note.ensures ∙ sym (rw pre.1)))
-
-pub shape_of-notes : goal.shape_of-notes
-shape_of-notes c = search rules
 
 pub returns : goal.returns
 returns c =

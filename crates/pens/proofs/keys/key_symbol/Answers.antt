@@ -6,14 +6,7 @@ use mathlib.Core.Path.{refl, sym, ◌∙◌}
 use Prim.Native.Nat.{ℕ, ◌+◌}
 use Rattle.pens.proofs.Writers.{kept-still}
 use Rattle.pens.specs.Moves.{moved, among_figures}
-use borrow.Author.Rules.{rules}
 use Rattle.pens.proofs.keys.key_symbol.Goals as goal
-
-pub put_figures-requires : goal.put_figures-requires
-put_figures-requires c = search rules
-
-pub shape_of-out-then-row-eq1 : goal.shape_of-out-then-row-eq1
-shape_of-out-then-row-eq1 c = search rules
 
 pub returns-then-row-eq1 : goal.returns-then-row-eq1
 returns-then-row-eq1 c =
@@ -23,12 +16,6 @@ returns-then-row-eq1 c =
     let the-put-figures = c.put_figures in
     (the-put-figures.ensures.0, refl, λ k q v i g. written _ args.pen args.rest k args.row.number q v _ _ (λ (n : ℕ). among_figures args.pen n false) _ _ _ (rw (pre.1, the-if1.true)) (rw (pre.1, the-if1.true)) (sym (rw (pre.1, the-if1.true))) (the-put-figures.ensures.1 k q v i g))
 
-pub put_at_once-requires : goal.put_at_once-requires
-put_at_once-requires c = search rules
-
-pub shape_of-out-then-row-eq2 : goal.shape_of-out-then-row-eq2
-shape_of-out-then-row-eq2 c = search rules
-
 pub returns-then-row-eq2 : goal.returns-then-row-eq2
 returns-then-row-eq2 c =
     let args = c.args in
@@ -36,12 +23,6 @@ returns-then-row-eq2 c =
     let the-if2 = c.if-row-eq2 in
     let the-put-at-once = c.put_at_once in
     (the-put-at-once.ensures.0, refl, λ k q v i g. written _ args.pen args.rest k args.row.number q v _ _ (λ (n : ℕ). moved args.pen n 6 0) _ _ _ (rw (pre.1, the-if2.true)) (rw (pre.1, the-if2.true)) (sym (rw (pre.1, the-if2.true))) (the-put-at-once.ensures.1 k q v i g))
-
-pub note-requires : goal.note-requires
-note-requires c = search rules
-
-pub shape_of-notes : goal.shape_of-notes
-shape_of-notes c = search rules
 
 pub returns : goal.returns
 returns c =

@@ -5,20 +5,7 @@ use Prim.Native.Nat.{ℕ}
 use lib.ListN.{length}
 use Rattle.pens.proofs.KeyRows.{written, forgotten-long}
 use Rattle.pens.specs.Moves.{moved, begun}
-use borrow.Author.Rules.{rules}
 use Rattle.pens.proofs.keys.key_top.Goals as goal
-
-pub forget-requires : goal.forget-requires
-forget-requires c = search rules
-
-pub put_at_once-requires : goal.put_at_once-requires
-put_at_once-requires c = search rules
-
-pub shape_of-notes-then-row-eq0 : goal.shape_of-notes-then-row-eq0
-shape_of-notes-then-row-eq0 c = search rules
-
-pub shape_of-out-then-row-eq0 : goal.shape_of-out-then-row-eq0
-shape_of-out-then-row-eq0 c = search rules
 
 pub returns-then-row-eq0 : goal.returns-then-row-eq0
 returns-then-row-eq0 c =
@@ -28,30 +15,12 @@ returns-then-row-eq0 c =
     let the-put-at-once = c.put_at_once in
     (the-put-at-once.ensures.0, ap (λ (l : List ℕ). length l) the-forget.ensures ∙ forgotten-long args.notes.now, λ k q v i g. written _ args.pen args.rest k args.row.number q v _ _ (λ (n : ℕ). moved args.pen n 1 0) _ _ _ (rw pre.1) (rw (pre.1, c.if-row-eq0.true)) (the-forget.ensures ∙ sym (rw pre.1)) (the-put-at-once.ensures.1 k q v i g))
 
-pub put_begun-requires : goal.put_begun-requires
-put_begun-requires c = search rules
-
-pub shape_of-notes-then-row-eq1 : goal.shape_of-notes-then-row-eq1
-shape_of-notes-then-row-eq1 c = search rules
-
-pub shape_of-out-then-row-eq1 : goal.shape_of-out-then-row-eq1
-shape_of-out-then-row-eq1 c = search rules
-
 pub returns-then-row-eq1 : goal.returns-then-row-eq1
 returns-then-row-eq1 c =
     let args = c.args in
     let pre = c.requires in
     let the-forget = c.forget in
     (c.put_begun.ensures.0, ap (λ (l : List ℕ). length l) the-forget.ensures ∙ forgotten-long args.notes.now, λ k q v i g. written _ args.pen args.rest k args.row.number q v _ _ (λ (n : ℕ). begun args.pen n 2) _ _ _ (rw pre.1) (rw (pre.1, c.if-row-eq1.true)) (the-forget.ensures ∙ sym (rw pre.1)) (c.put_begun.ensures.1 k q v i g))
-
-pub put_at_once-requires-then-row-eq2 : goal.put_at_once-requires-then-row-eq2
-put_at_once-requires-then-row-eq2 c = search rules
-
-pub shape_of-notes-then-row-eq2 : goal.shape_of-notes-then-row-eq2
-shape_of-notes-then-row-eq2 c = search rules
-
-pub shape_of-out-then-row-eq2 : goal.shape_of-out-then-row-eq2
-shape_of-out-then-row-eq2 c = search rules
 
 pub returns-then-row-eq2 : goal.returns-then-row-eq2
 returns-then-row-eq2 c =
@@ -60,15 +29,6 @@ returns-then-row-eq2 c =
     let the-forget = c.forget in
     let the-put-at-once2 = c.put_at_once-then-row-eq2 in
     (the-put-at-once2.ensures.0, ap (λ (l : List ℕ). length l) the-forget.ensures ∙ forgotten-long args.notes.now, λ k q v i g. written _ args.pen args.rest k args.row.number q v _ _ (λ (n : ℕ). moved args.pen n 4 0) _ _ _ (rw pre.1) (rw (pre.1, c.if-row-eq2.true)) (the-forget.ensures ∙ sym (rw pre.1)) (the-put-at-once2.ensures.1 k q v i g))
-
-pub put_at_once-requires-2 : goal.put_at_once-requires-2
-put_at_once-requires-2 c = search rules
-
-pub shape_of-notes : goal.shape_of-notes
-shape_of-notes c = search rules
-
-pub shape_of-out : goal.shape_of-out
-shape_of-out c = search rules
 
 pub returns : goal.returns
 returns c =

@@ -11,17 +11,7 @@ use Rattle.pens.specs.Noting.{note_of, notes_from}
 use Rattle.pens.proofs.RowsNoted.{kind-closed}
 use Rattle.pens.proofs.KeyRows.{noted-long, written, held_back, holds-is, wire_pen_lem, wire-element_pen, wire-once, wire-noted, wire-written}
 use Rattle.pens.proofs.Writers.{kept-still, kept-moved}
-use borrow.Author.Rules.{rules}
 use Rattle.pens.proofs.keys.key_wire.Goals as goal
-
-pub at_once_in_wire-requires : goal.at_once_in_wire-requires
-at_once_in_wire-requires c = search rules
-
-pub put_at_once-requires : goal.put_at_once-requires
-put_at_once-requires c = search rules
-
-pub shape_of-out-then-at_once_in_wire : goal.shape_of-out-then-at_once_in_wire
-shape_of-out-then-at_once_in_wire c = search rules
 
 pub returns-then-at_once_in_wire : goal.returns-then-at_once_in_wire
 returns-then-at_once_in_wire c =
@@ -29,23 +19,11 @@ returns-then-at_once_in_wire c =
     let once = sym c.at_once_in_wire.ensures ∙ c.if-at_once_in_wire.true in
     (c.put_at_once.ensures.0, refl, λ k q v i g. written _ args.pen args.rest k args.row.number q v _ _ (λ (n : ℕ). moved args.pen n 12 0) _ _ _ (wire-once args.pen args.row.number _ c.requires.1 once) (wire-element_pen args.pen args.row.number q.holds (opens_block q.holds v) (inner_of q.holds) (length (ended (line_of k q v))) c.requires.1 once) (sym (wire-written args.pen args.table args.row.number q.holds (inner_of q.holds) (note_of args.rest) args.notes.now c.requires.1 once)) (c.put_at_once.ensures.1 k q v i g))
 
-pub note-requires : goal.note-requires
-note-requires c = search rules
-
-pub at_block-requires : goal.at_block-requires
-at_block-requires c = search rules
-
-pub shape_of-notes-then-row-eq-HOLDS_BLOCK : goal.shape_of-notes-then-row-eq-HOLDS_BLOCK
-shape_of-notes-then-row-eq-HOLDS_BLOCK c = search rules
-
 pub returns-then-row-eq-HOLDS_BLOCK : goal.returns-then-row-eq-HOLDS_BLOCK
 returns-then-row-eq-HOLDS_BLOCK c =
     let args = c.args in
     let once = sym c.at_once_in_wire.ensures ∙ c.if-at_once_in_wire.false in
     (kept-moved _ args.pen _ _ _ c.requires.0 c.at_block.ensures, noted-long args.notes.now _ (notes_from args.table + args.row.number) (note_of args.rest) c.note.ensures, λ k q v i g. held_back _ args.pen args.rest k args.row.number q v _ _ c.at_block.result _ c.requires.0.within (wire-once args.pen args.row.number _ c.requires.1 once) (wire_pen_lem args.pen args.row.number q.holds (opens_block q.holds v) (inner_of q.holds) 0 c.requires.1 ∙ ap (λ (d : Kind). wire_pen args.pen args.row.number d 0) (sym (holds-is _ _ q _ i)) ∙ rw (once, c.if-row-eq-HOLDS_BLOCK.true) (sym c.at_block.ensures)) (c.note.ensures ∙ sym (wire-noted args.pen args.table args.row.number q.holds (inner_of q.holds) (note_of args.rest) args.notes.now c.requires.1 once)))
-
-pub shape_of-notes : goal.shape_of-notes
-shape_of-notes c = search rules
 
 pub returns : goal.returns
 returns c =

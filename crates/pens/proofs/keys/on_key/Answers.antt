@@ -2,32 +2,10 @@ use mathlib.Core.Path.{refl, ◌∙◌}
 use Rattle.pens.specs.Keys.{is_brace}
 use Rattle.pens.proofs.KeyRows.{plain-table, no_row, on_row}
 use Rattle.pens.proofs.Writers.{kept-still}
-use borrow.Author.Rules.{rules}
 use Rattle.pens.proofs.keys.on_key.Goals as goal
-
-pub key_names-requires : goal.key_names-requires
-key_names-requires c = search rules
-
-pub shape_of-out-then-pen-eq-BLOCK_LAYER_NAMES : goal.shape_of-out-then-pen-eq-BLOCK_LAYER_NAMES
-shape_of-out-then-pen-eq-BLOCK_LAYER_NAMES c = search rules
 
 pub returns-then-pen-eq-BLOCK_LAYER_NAMES : goal.returns-then-pen-eq-BLOCK_LAYER_NAMES
 returns-then-pen-eq-BLOCK_LAYER_NAMES c = (c.key_names.ensures.0, c.requires.1, record { name = λ _. (c.key_names.ensures.1, refl); row = λ h. absurd (h c.if-pen-eq-BLOCK_LAYER_NAMES.true) })
-
-pub table_of-table-requires : goal.table_of-table-requires
-table_of-table-requires c = search rules
-
-pub part-requires : goal.part-requires
-part-requires c = search rules
-
-pub row_of-requires : goal.row_of-requires
-row_of-requires c = search rules
-
-pub enum_told-1 : goal.enum_told-1
-enum_told-1 c = search rules
-
-pub enum_known-row : goal.enum_known-row
-enum_known-row c = search rules
 
 pub row_line-requires : goal.row_line-requires
 row_line-requires c =
@@ -40,12 +18,6 @@ pub returns-in-None : goal.returns-in-None
 returns-in-None c =
     let pre = c.requires in
     (kept-still _ _ pre.0, pre.1, record { name = λ h. absurd (c.if-pen-eq-BLOCK_LAYER_NAMES.false h); row = λ _ k j q v f g. no_row _ _ _ _ j q _ c.part.ensures c.table_of-table.ensures c.in-None.is c.row_of.ensures f })
-
-pub shape_of-notes : goal.shape_of-notes
-shape_of-notes c = search rules
-
-pub shape_of-out : goal.shape_of-out
-shape_of-out c = search rules
 
 pub returns-in-Some : goal.returns-in-Some
 returns-in-Some c =

@@ -6,26 +6,7 @@ use Prim.Native.Nat.{ℕ, ◌+◌}
 use mathlib.Core.Bool.{true}
 use Rattle.pens.proofs.Writers.{kept-still}
 use Rattle.pens.specs.Moves.{moved, among_figures}
-use borrow.Author.Rules.{rules}
 use Rattle.pens.proofs.keys.row_line.Goals as goal
-
-pub key_figures-requires : goal.key_figures-requires
-key_figures-requires c = search rules
-
-pub shape_of-notes-then-pen-eq-BLOCK_FIGURES : goal.shape_of-notes-then-pen-eq-BLOCK_FIGURES
-shape_of-notes-then-pen-eq-BLOCK_FIGURES c = search rules
-
-pub shape_of-out-then-pen-eq-BLOCK_FIGURES : goal.shape_of-out-then-pen-eq-BLOCK_FIGURES
-shape_of-out-then-pen-eq-BLOCK_FIGURES c = search rules
-
-pub returns-then-pen-eq-BLOCK_FIGURES : goal.returns-then-pen-eq-BLOCK_FIGURES
-returns-then-pen-eq-BLOCK_FIGURES c = search rules
-
-pub put_at_once-requires : goal.put_at_once-requires
-put_at_once-requires c = search rules
-
-pub shape_of-out-then-pen-eq-BLOCK_CHAIN : goal.shape_of-out-then-pen-eq-BLOCK_CHAIN
-shape_of-out-then-pen-eq-BLOCK_CHAIN c = search rules
 
 pub returns-then-pen-eq-BLOCK_CHAIN : goal.returns-then-pen-eq-BLOCK_CHAIN
 returns-then-pen-eq-BLOCK_CHAIN c =
@@ -37,20 +18,8 @@ returns-then-pen-eq-BLOCK_CHAIN c =
 pub key_wire-requires : goal.key_wire-requires
 key_wire-requires c = (c.requires.0, c.if-pen-eq-BLOCK_WIRE.true)
 
-pub shape_of-notes-then-pen-eq-BLOCK_WIRE : goal.shape_of-notes-then-pen-eq-BLOCK_WIRE
-shape_of-notes-then-pen-eq-BLOCK_WIRE c = search rules
-
-pub shape_of-out-then-pen-eq-BLOCK_WIRE : goal.shape_of-out-then-pen-eq-BLOCK_WIRE
-shape_of-out-then-pen-eq-BLOCK_WIRE c = search rules
-
 pub returns-then-pen-eq-BLOCK_WIRE : goal.returns-then-pen-eq-BLOCK_WIRE
 returns-then-pen-eq-BLOCK_WIRE c = (c.key_wire.ensures.0, c.key_wire.ensures.1, c.key_wire.ensures.2)
-
-pub note-requires : goal.note-requires
-note-requires c = search rules
-
-pub shape_of-notes-then-pen-eq-BLOCK_TEXT : goal.shape_of-notes-then-pen-eq-BLOCK_TEXT
-shape_of-notes-then-pen-eq-BLOCK_TEXT c = search rules
 
 pub returns-then-pen-eq-BLOCK_TEXT : goal.returns-then-pen-eq-BLOCK_TEXT
 returns-then-pen-eq-BLOCK_TEXT c =
@@ -59,27 +28,6 @@ returns-then-pen-eq-BLOCK_TEXT c =
     let the-if4 = c.if-pen-eq-BLOCK_TEXT in
     (kept-still _ _ pre.0, noted-long args.notes.now _ (notes_from args.table + args.row.number) (note_of args.rest) c.note.ensures, λ k q v i g. held_back _ args.pen args.rest k args.row.number q v _ _ args.pen _ pre.0.within (rw the-if4.true) (rw the-if4.true) (c.note.ensures ∙ sym (rw the-if4.true)))
 
-pub key_placed-requires : goal.key_placed-requires
-key_placed-requires c = search rules
-
-pub shape_of-notes-then-pen-eq-BLOCK_PLACED : goal.shape_of-notes-then-pen-eq-BLOCK_PLACED
-shape_of-notes-then-pen-eq-BLOCK_PLACED c = search rules
-
-pub shape_of-out-then-pen-eq-BLOCK_PLACED : goal.shape_of-out-then-pen-eq-BLOCK_PLACED
-shape_of-out-then-pen-eq-BLOCK_PLACED c = search rules
-
-pub returns-then-pen-eq-BLOCK_PLACED : goal.returns-then-pen-eq-BLOCK_PLACED
-returns-then-pen-eq-BLOCK_PLACED c = search rules
-
-pub key_top-requires : goal.key_top-requires
-key_top-requires c = search rules
-
-pub shape_of-notes-then-pen-eq-BLOCK_TOP : goal.shape_of-notes-then-pen-eq-BLOCK_TOP
-shape_of-notes-then-pen-eq-BLOCK_TOP c = search rules
-
-pub shape_of-out-then-pen-eq-BLOCK_TOP : goal.shape_of-out-then-pen-eq-BLOCK_TOP
-shape_of-out-then-pen-eq-BLOCK_TOP c = search rules
-
 pub returns-then-pen-eq-BLOCK_TOP : goal.returns-then-pen-eq-BLOCK_TOP
 returns-then-pen-eq-BLOCK_TOP c =
     let args = c.args in
@@ -87,27 +35,6 @@ returns-then-pen-eq-BLOCK_TOP c =
     let the-if6 = c.if-pen-eq-BLOCK_TOP in
     let the-key-top = c.key_top in
     let e : args.table ≡ 0 = pre.2 ∙ rw the-if6.true in (the-key-top.ensures.0, the-key-top.ensures.1, λ k q v i g. of-table _ _ k q v _ _ _ _ _ args.row _ _ e (λ j. the-key-top.ensures.2 k q v j g) i)
-
-pub key_file-requires : goal.key_file-requires
-key_file-requires c = search rules
-
-pub shape_of-notes-then-pen-eq-BLOCK_FILE : goal.shape_of-notes-then-pen-eq-BLOCK_FILE
-shape_of-notes-then-pen-eq-BLOCK_FILE c = search rules
-
-pub shape_of-out-then-pen-eq-BLOCK_FILE : goal.shape_of-out-then-pen-eq-BLOCK_FILE
-shape_of-out-then-pen-eq-BLOCK_FILE c = search rules
-
-pub returns-then-pen-eq-BLOCK_FILE : goal.returns-then-pen-eq-BLOCK_FILE
-returns-then-pen-eq-BLOCK_FILE c = search rules
-
-pub key_drawing-requires : goal.key_drawing-requires
-key_drawing-requires c = search rules
-
-pub shape_of-notes-then-pen-eq-BLOCK_DRAWING : goal.shape_of-notes-then-pen-eq-BLOCK_DRAWING
-shape_of-notes-then-pen-eq-BLOCK_DRAWING c = search rules
-
-pub shape_of-out-then-pen-eq-BLOCK_DRAWING : goal.shape_of-out-then-pen-eq-BLOCK_DRAWING
-shape_of-out-then-pen-eq-BLOCK_DRAWING c = search rules
 
 pub returns-then-pen-eq-BLOCK_DRAWING : goal.returns-then-pen-eq-BLOCK_DRAWING
 returns-then-pen-eq-BLOCK_DRAWING c =
@@ -120,12 +47,6 @@ returns-then-pen-eq-BLOCK_DRAWING c =
 pub key_defines-requires : goal.key_defines-requires
 key_defines-requires c = (c.requires.0, c.if-pen-eq-BLOCK_DEFINES.true)
 
-pub shape_of-notes-then-pen-eq-BLOCK_DEFINES : goal.shape_of-notes-then-pen-eq-BLOCK_DEFINES
-shape_of-notes-then-pen-eq-BLOCK_DEFINES c = search rules
-
-pub shape_of-out-then-pen-eq-BLOCK_DEFINES : goal.shape_of-out-then-pen-eq-BLOCK_DEFINES
-shape_of-out-then-pen-eq-BLOCK_DEFINES c = search rules
-
 pub returns-then-pen-eq-BLOCK_DEFINES : goal.returns-then-pen-eq-BLOCK_DEFINES
 returns-then-pen-eq-BLOCK_DEFINES c =
     let args = c.args in
@@ -136,12 +57,6 @@ returns-then-pen-eq-BLOCK_DEFINES c =
 
 pub key_symbol-requires : goal.key_symbol-requires
 key_symbol-requires c = (c.requires.0, c.if-pen-eq-BLOCK_SYMBOL.true)
-
-pub shape_of-notes-then-pen-eq-BLOCK_SYMBOL : goal.shape_of-notes-then-pen-eq-BLOCK_SYMBOL
-shape_of-notes-then-pen-eq-BLOCK_SYMBOL c = search rules
-
-pub shape_of-out-then-pen-eq-BLOCK_SYMBOL : goal.shape_of-out-then-pen-eq-BLOCK_SYMBOL
-shape_of-out-then-pen-eq-BLOCK_SYMBOL c = search rules
 
 pub returns-then-pen-eq-BLOCK_SYMBOL : goal.returns-then-pen-eq-BLOCK_SYMBOL
 returns-then-pen-eq-BLOCK_SYMBOL c =
@@ -154,9 +69,6 @@ returns-then-pen-eq-BLOCK_SYMBOL c =
 pub put_at_once-requires-then-pen-eq-BLOCK_HIDE : goal.put_at_once-requires-then-pen-eq-BLOCK_HIDE
 put_at_once-requires-then-pen-eq-BLOCK_HIDE c = c.requires.0
 
-pub shape_of-out-then-pen-eq-BLOCK_HIDE : goal.shape_of-out-then-pen-eq-BLOCK_HIDE
-shape_of-out-then-pen-eq-BLOCK_HIDE c = search rules
-
 pub returns-then-pen-eq-BLOCK_HIDE : goal.returns-then-pen-eq-BLOCK_HIDE
 returns-then-pen-eq-BLOCK_HIDE c =
     let args = c.args in
@@ -166,9 +78,6 @@ returns-then-pen-eq-BLOCK_HIDE c =
 
 pub put_figures-requires : goal.put_figures-requires
 put_figures-requires c = c.requires.0
-
-pub shape_of-out : goal.shape_of-out
-shape_of-out c = search rules
 
 pub returns : goal.returns
 returns c =

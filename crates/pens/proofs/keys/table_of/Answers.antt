@@ -1,42 +1,23 @@
 use borrow.Author.Tests.{ne_eqb}
-use borrow.Author.Rules.{rules}
 use Rattle.pens.proofs.keys.table_of.Goals as goal
-
-pub figure_table-requires : goal.figure_table-requires
-figure_table-requires c = search rules
 
 pub returns-then-pen-eq-BLOCK_FIGURES : goal.returns-then-pen-eq-BLOCK_FIGURES
 returns-then-pen-eq-BLOCK_FIGURES c = rw c.if-pen-eq-BLOCK_FIGURES.true c.figure_table.ensures
 
-pub by_home-requires : goal.by_home-requires
-by_home-requires c = search rules
-
 pub returns-then-pen-eq-BLOCK_CHAIN : goal.returns-then-pen-eq-BLOCK_CHAIN
 returns-then-pen-eq-BLOCK_CHAIN c = rw c.if-pen-eq-BLOCK_CHAIN.true c.by_home.ensures
-
-pub wire_table-requires : goal.wire_table-requires
-wire_table-requires c = search rules
 
 pub returns-then-pen-eq-BLOCK_WIRE : goal.returns-then-pen-eq-BLOCK_WIRE
 returns-then-pen-eq-BLOCK_WIRE c = rw c.if-pen-eq-BLOCK_WIRE.true c.wire_table.ensures
 
-pub by_home-requires-then-pen-eq-BLOCK_TEXT : goal.by_home-requires-then-pen-eq-BLOCK_TEXT
-by_home-requires-then-pen-eq-BLOCK_TEXT c = search rules
-
 pub returns-then-pen-eq-BLOCK_TEXT : goal.returns-then-pen-eq-BLOCK_TEXT
 returns-then-pen-eq-BLOCK_TEXT c = rw c.if-pen-eq-BLOCK_TEXT.true c.by_home-then-pen-eq-BLOCK_TEXT.ensures
-
-pub placed_table-requires : goal.placed_table-requires
-placed_table-requires c = search rules
 
 pub returns-then-pen-eq-BLOCK_PLACED : goal.returns-then-pen-eq-BLOCK_PLACED
 returns-then-pen-eq-BLOCK_PLACED c = rw c.if-pen-eq-BLOCK_PLACED.true c.placed_table.ensures
 
 pub returns-then-pen-eq-BLOCK_TOP : goal.returns-then-pen-eq-BLOCK_TOP
 returns-then-pen-eq-BLOCK_TOP c = rw c.if-pen-eq-BLOCK_TOP.true
-
-pub file_table-requires : goal.file_table-requires
-file_table-requires c = search rules
 
 pub returns-then-pen-eq-BLOCK_FILE : goal.returns-then-pen-eq-BLOCK_FILE
 returns-then-pen-eq-BLOCK_FILE c = rw c.if-pen-eq-BLOCK_FILE.true c.file_table.ensures

@@ -1,16 +1,6 @@
 use mathlib.Core.Path.{sym}
 use lib.ListN.{get_or-eq_default}
-use borrow.Author.Rules.{rules}
 use Rattle.pens.proofs.noted.note_at.Goals as goal
 
 pub returns-then-notes-i : goal.returns-then-notes-i
 returns-then-notes-i c = sym (get_or-eq_default c.args.notes.now 0 c.if-notes-i.true)
-
-pub offset_bounds-notes-i : goal.offset_bounds-notes-i
-offset_bounds-notes-i c = search rules
-
-pub bounds-notes-i : goal.bounds-notes-i
-bounds-notes-i c = search rules
-
-pub returns : goal.returns
-returns c = search rules

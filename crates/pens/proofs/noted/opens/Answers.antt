@@ -1,14 +1,7 @@
 use mathlib.Core.Path.{sym}
 use borrow.Author.Tests.{ne_eqb}
 use Rattle.pens.proofs.RowsNoted.{opens-so}
-use borrow.Author.Rules.{rules}
 use Rattle.pens.proofs.noted.opens.Goals as goal
-
-pub shape_for-requires : goal.shape_for-requires
-shape_for-requires c = search rules
-
-pub sort_of-sort-requires : goal.sort_of-sort-requires
-sort_of-sort-requires c = search rules
 
 pub returns-then-sort-eq-SORT_OPENER : goal.returns-then-sort-eq-SORT_OPENER
 returns-then-sort-eq-SORT_OPENER c = opens-so c.args.s.now c.args.row _ c.shape_for.result _ c.shape_for.ensures c.sort_of-sort.ensures _ (sym (rw c.if-sort-eq-SORT_OPENER.true))

@@ -11,18 +11,6 @@ use Rattle.pens.proofs.places.forget.Goals as goal
 pub loop-i-init : goal.loop-i-init
 loop-i-init c = (omega arith, refl, refl)
 
-pub offset_bounds-notes-i : goal.offset_bounds-notes-i
-offset_bounds-notes-i c = omega arith
-
-pub bounds-notes-i : goal.bounds-notes-i
-bounds-notes-i c = omega arith
-
-pub overflow_add-i : goal.overflow_add-i
-overflow_add-i c = omega arith
-
-pub loop-i-smaller : goal.loop-i-smaller
-loop-i-smaller c = omega arith
-
 pub loop-i-preserved : goal.loop-i-preserved
 loop-i-preserved c =
     let t = c.args.notes.now in

@@ -8,12 +8,6 @@ use Rattle.pens.proofs.swap.turn.Goals as goal
 pub loop-i-init : goal.loop-i-init
 loop-i-init c = (begun c.args.t.now, omega arith, omega arith)
 
-pub overflow_add-i : goal.overflow_add-i
-overflow_add-i c = omega arith
-
-pub overflow_sub-j : goal.overflow_sub-j
-overflow_sub-j c = omega arith
-
 pub bounds-t-i : goal.bounds-t-i
 bounds-t-i c = let v = c.loop-i in omega (arith, same_size _ v.i v.j v.t v.invariant.0)
 
@@ -25,12 +19,6 @@ bounds-t-i-in-loop-i c = let v = c.loop-i in omega (arith, same_size _ v.i v.j v
 
 pub bounds-t-j-in-loop-i : goal.bounds-t-j-in-loop-i
 bounds-t-j-in-loop-i c = let v = c.loop-i in omega (arith, same_size _ v.i v.j v.t v.invariant.0, length-set v.t v.i (get_or v.t (v.j - 1) 0))
-
-pub overflow_add-i-in-loop-i : goal.overflow_add-i-in-loop-i
-overflow_add-i-in-loop-i c = omega arith
-
-pub loop-i-smaller : goal.loop-i-smaller
-loop-i-smaller c = omega arith
 
 pub loop-i-preserved : goal.loop-i-preserved
 loop-i-preserved c = let v = c.loop-i in (turned _ v.i v.j v.t v.invariant.0 (omega arith) _ _ refl refl, omega arith, omega arith)
