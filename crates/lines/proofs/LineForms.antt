@@ -1,4 +1,6 @@
 -- Laws of a line's form by place: leading blanks, and the end of the key.
+use Rattle.std.specs.List.{starts_with}
+use Rattle.std.proofs.Math.Bool.{and-true}
 use Rattle.std.specs.Prelude.{Ok, Err}
 use Prim.Native.Nat.{ℕ, suc, ◌+◌, ◌-◌, ◌<◌, ◌≤◌, zero-le, suc-le-suc}
 use mathlib.Core.Path.{◌≡◌, refl, ap, ◌∙◌}
@@ -7,8 +9,8 @@ use mathlib.Core.List.{List, [], ◌∷◌}
 use native.Mathlib.Omega.{arith}
 use lib.Dec.{eqb}
 use lib.ListN.{length, get_or, take, drop, drop_of_length-le}
-use borrow.Author.Tests.{eq-eqb, ne_eqb, eqb-true}
-use Rattle.rules.proofs.Chains.{clash, ap-cond}
+use borrow.Author.Tests.{eq-eqb, ne_eqb, eqb-true, eqb-false}
+use Rattle.rules.proofs.Chains.{clash, and_false, ap-cond}
 use Rattle.rules.specs.Base.{choose, bytes, is_nil, same}
 use Rattle.rules.specs.declared.LineForm.{LineForm}
 use Rattle.rules.specs.declared.LineForm.TheVariants as L
@@ -82,6 +84,10 @@ module _ (s : List ℕ) (i : ℕ) (h : i < length s) where
   unfolding blank_of
   blank-wide a b e k f = rw (by_place s i h, by_place s (i + 1) k, ne_eqb _ _ a, ne_eqb _ _ b, eq-eqb _ _ e, eq-eqb _ _ f)
 
+pub blank_end : (s : List ℕ) (i : ℕ) → length s ≤ i → blank_of (drop i s) ≡ 0
+unfolding blank_of
+blank_end s i h = rw (drop_of_length-le s h)
+
 -- ── the end of the key ──
 pub later-zero : (e : KeyEnd) → later 0 e ≡ e
 later-zero endless = refl
@@ -119,22 +125,19 @@ scan-brace b (c ∷ s) e f = rw e (go (eqb b 58) (eqb c 123) f (scan (c ∷ s)))
     go true false h r = absurd (let z : ◌≡◌ {A = ℕ} 0 1 = cc in omega arith)
     go false u h r = absurd (let z : ◌≡◌ {A = ℕ} 0 1 = cc in omega arith)
 
-module _ (s : List ℕ) (i : ℕ) (h : i < length s) where
-  pub opens_not : (get_or s i 0 ≡ 58 → ⊥) → opens_here (drop i s) ≡ false
-  unfolding opens_here
-  opens_not e = rw (by_place s i h) (go (drop (i + 1) s))
-    where
-      go : (t : List ℕ) → opens_here (get_or s i 0 ∷ t) ≡ false
-      go [] = refl
-      go (c ∷ t) = rw (ne_eqb _ _ e)
+pub eqb-flip : (a b : ℕ) → eqb a b ≡ eqb b a
+eqb-flip a b = go (eqb b a) refl
+  where
+    go : (t : Bool) → eqb b a ≡ t → eqb a b ≡ t
+    go true q = eq-eqb a b (let e = eqb-true b a q in omega (arith, e))
+    go false q = ne_eqb a b (λ e. eqb-false b a q (omega (arith, e)))
 
-  pub opens-last : length s ≤ i + 1 → opens_here (drop i s) ≡ false
-  unfolding opens_here
-  opens-last k = rw (by_place s i h, drop_of_length-le s k)
-
-  pub opens_by : get_or s i 0 ≡ 58 → i + 1 < length s → opens_here (drop i s) ≡ eqb (get_or s (i + 1) 0) 123
-  unfolding opens_here
-  opens_by e k = rw (by_place s i h, by_place s (i + 1) k, eq-eqb _ _ e)
+-- as the code tests it
+pub opens-starts : (s : List ℕ) → starts_with eqb s (58 ∷ 123 ∷ []) ≡ opens_here s
+unfolding opens_here
+opens-starts [] = refl
+opens-starts (b ∷ []) = and_false (eqb 58 b)
+opens-starts (b ∷ c ∷ s) = rw (eqb-flip 58 b, eqb-flip 123 c, and-true (eqb c 123))
 
 -- ── the key and what follows it ──
 -- the parts of a line at the end of its key, w bytes wide

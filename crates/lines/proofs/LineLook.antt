@@ -1,5 +1,7 @@
 -- Laws of one look at a line: the runs of its bytes, and what they make of its form.
 use Rattle.std.specs.Prelude.{None}
+use Rattle.std.specs.List.{starts_with}
+use Rattle.std.proofs.Math.Bool.{and-true}
 use Prim.Native.Nat.{ℕ, ◌+◌, ◌-◌, ◌<◌, ◌≤◌}
 use mathlib.Core.Path.{◌≡◌, refl, ap, sym, ◌∙◌}
 use mathlib.Core.Bool.{Bool, true, false, cond, ◌&&◌, ◌||◌, not}
@@ -261,17 +263,25 @@ module _ (t : List ℕ) (i : ℕ) (h : i < length t) where
   unfolding char_of
   char_pair e f k = rw (by_place t i h, by_place t (i + 1) k, e, f)
 
-  pub key_equal : get_or t i 0 ≡ 61 → key_char (drop i t) ≡ 0
-  unfolding key_char
-  key_equal e = rw (by_place t i h, eq-eqb _ _ e)
-
-  pub key-opens : (get_or t i 0 ≡ 61 → ⊥) → opens_here (drop i t) ≡ true → key_char (drop i t) ≡ 0
-  unfolding key_char
-  key-opens e f = rw (by_place t i h) (let g : opens_here (get_or t i 0 ∷ drop (i + 1) t) ≡ true = rw (by_place t i h) at f in rw (ne_eqb _ _ e, g))
-
   pub key_char_lem : (get_or t i 0 ≡ 61 → ⊥) → opens_here (drop i t) ≡ false → key_char (drop i t) ≡ char_of (drop i t)
   unfolding key_char
   key_char_lem e f = rw (by_place t i h) (let g : opens_here (get_or t i 0 ∷ drop (i + 1) t) ≡ false = rw (by_place t i h) at f in rw (ne_eqb _ _ e, g))
+
+-- a key's character, as the code tests it
+pub key-stops : (s : List ℕ) → starts_with eqb s (61 ∷ []) ≡ true → key_char s ≡ 0
+unfolding key_char
+key-stops [] e = refl
+key-stops (b ∷ s) e = let q = forms.eqb-flip b 61 ∙ sym (and-true (eqb 61 b)) ∙ e in rw q
+
+pub key-opens : (s : List ℕ) → opens_here s ≡ true → key_char s ≡ 0
+unfolding key_char
+key-opens [] e = refl
+key-opens (b ∷ s) e = rw (e, or_true (eqb b 61))
+
+pub key-goes : (s : List ℕ) → starts_with eqb s (61 ∷ []) ≡ false → opens_here s ≡ false → key_char s ≡ char_of s
+unfolding key_char char_of
+key-goes [] e f = refl
+key-goes (b ∷ s) e f = let q = forms.eqb-flip b 61 ∙ sym (and-true (eqb 61 b)) ∙ e in rw (q, f)
 
 -- ── leading blanks ──
 abbrev narrow : ℕ → Bool

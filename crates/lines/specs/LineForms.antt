@@ -1,5 +1,5 @@
 -- The parts of a line's form that the code finds by place; that they are those of Lines is proved in proofs/LineForms.
-use Rattle.std.specs.Prelude.{ℕ, ◌+◌, ◌≤◌, ◌≡◌, Bool, false, cond, ◌&&◌, ◌||◌, not, List, [], ◌∷◌, eqb, length, drop}
+use Rattle.std.specs.Prelude.{Option, MatchOption, ◌<◌, ℕ, ◌+◌, ◌≤◌, ◌≡◌, Bool, false, cond, ◌&&◌, ◌||◌, not, List, [], ◌∷◌, eqb, length, drop}
 use Rattle.rules.specs.Base.{within}
 use Rattle.rules.specs.Lines.{Scan, neither, at_equal, at_brace, unindent, scan, allowed, single_byte, lead_byte, trail_byte, span, form_of_rest, with_places}
 use Rattle.rules.specs.declared.LineForm.{LineForm}
@@ -27,6 +27,10 @@ char_of (b ∷ c ∷ s) = cond (single_byte b) 1 (cond (lead_byte b && trail_byt
 unfoldable pub key_char : List ℕ → ℕ
 key_char [] = 0
 key_char (b ∷ s) = cond (eqb b 61 || opens_here (b ∷ s)) 0 (char_of (b ∷ s))
+
+-- so many bytes, if any
+abbrev pub IfAny : Option ℕ → ℕ → Type 0
+IfAny o n = MatchOption o (n ≡ 0) (λ k. (0 < k) × (k ≡ n))
 
 -- printing ASCII that cannot end a key
 abbrev pub key_byte : ℕ → Bool

@@ -1,26 +1,27 @@
-use mathlib.Core.Path.{sym, ◌∙◌}
-use native.Mathlib.Omega.{arith}
 use Prim.Native.Nat.{◌+◌}
+use native.Mathlib.Omega.{arith}
 use Rattle.lines.proofs.LineLook as laws
 use Rattle.lines.proofs.runs.clean_run.Goals as goal
 
-pub loop-i-init : goal.loop-i-init
-loop-i-init c = (c.plain_run-i.ensures.high, c.plain_run-i.ensures)
+pub loop-n-init : goal.loop-n-init
+loop-n-init c = c.plain_run-i.ensures
 
-pub returns-then-n-eq0 : goal.returns-then-n-eq0
-returns-then-n-eq0 c = record { passed = c.loop-i.invariant.1; stop = sym c.char_at-n.ensures ∙ c.if-n-eq0.true }
+pub char_at-requires : goal.char_at-requires
+char_at-requires c = c.loop-n.invariant.high
 
 pub overflow_add-i : goal.overflow_add-i
-overflow_add-i c = omega (arith, c.char_at-n.ensures, laws.char-le c.args.t.now c.loop-i.i c.loop-i.invariant.0)
+overflow_add-i c = let n = c.in-Some.ensures in omega (arith, n.1, laws.char-le c.args.t.now c.loop-n.i c.loop-n.invariant.high)
 
-pub plain_run-i-requires-in-loop-i : goal.plain_run-i-requires-in-loop-i
-plain_run-i-requires-in-loop-i c = omega (arith, c.char_at-n.ensures, laws.char-le c.args.t.now c.loop-i.i c.loop-i.invariant.0)
+pub plain_run-i-requires-in-Some : goal.plain_run-i-requires-in-Some
+plain_run-i-requires-in-Some c = let n = c.in-Some.ensures in omega (arith, n.1, laws.char-le c.args.t.now c.loop-n.i c.loop-n.invariant.high)
 
-pub loop-i-smaller : goal.loop-i-smaller
-loop-i-smaller c = omega (arith, c.char_at-n.ensures, laws.char-le c.args.t.now c.loop-i.i c.loop-i.invariant.0, c.plain_run-i-in-loop-i.ensures.low, c.plain_run-i-in-loop-i.ensures.high)
+pub loop-n-smaller : goal.loop-n-smaller
+loop-n-smaller c = let n = c.in-Some.ensures in let p = c.plain_run-i-in-Some.ensures in omega (arith, n.0, n.1, laws.char-le c.args.t.now c.loop-n.i c.loop-n.invariant.high, p.low, p.high)
 
-pub loop-i-preserved : goal.loop-i-preserved
-loop-i-preserved c = (c.plain_run-i-in-loop-i.ensures.high, laws.passed_on c.args.t.now c.args.from (c.loop-i.i + c.char_at-n.result) c.plain_run-i-in-loop-i.result (rw c.char_at-n.ensures (laws.char-passed c.args.t.now c.args.from c.loop-i.i c.loop-i.invariant.1)) c.plain_run-i-in-loop-i.ensures)
+pub loop-n-preserved : goal.loop-n-preserved
+loop-n-preserved c =
+    let n = c.in-Some.ensures in
+    laws.passed_on c.args.t.now c.args.from (c.loop-n.i + c.in-Some.n) c.plain_run-i-in-Some.result (rw n.1 (laws.char-passed c.args.t.now c.args.from c.loop-n.i c.loop-n.invariant)) c.plain_run-i-in-Some.ensures
 
 pub returns : goal.returns
-returns c = record { passed = c.loop-i.invariant.1; stop = laws.char-end c.args.t.now c.loop-i.i c.loop-i-test.false }
+returns c = record { passed = c.loop-n.invariant; stop = c.in_default.ensures }

@@ -1,22 +1,21 @@
-use mathlib.Core.Path.{sym, ◌∙◌}
 use native.Mathlib.Omega.{arith}
 use Rattle.lines.proofs.LineLook as laws
 use Rattle.lines.proofs.runs.indent.Goals as goal
 
-pub loop-i-init : goal.loop-i-init
-loop-i-init c = (omega arith, laws.blanks-start c.args.s.now)
+pub loop-n-init : goal.loop-n-init
+loop-n-init c = laws.blanks-start c.args.s.now
 
-pub returns-then-n-eq0 : goal.returns-then-n-eq0
-returns-then-n-eq0 c = laws.blanks-stop c.args.s.now c.loop-i.i c.loop-i.invariant.1 (sym c.blank_at-n.ensures ∙ c.if-n-eq0.true)
+pub blank_at-requires : goal.blank_at-requires
+blank_at-requires c = c.loop-n.invariant.high
 
 pub overflow_add-i : goal.overflow_add-i
-overflow_add-i c = omega (arith, c.blank_at-n.ensures, laws.blanks-le c.args.s.now c.loop-i.i c.loop-i.invariant.1)
+overflow_add-i c = let n = c.in-Some.ensures in omega (arith, n.1, laws.blanks-le c.args.s.now c.loop-n.i c.loop-n.invariant)
 
-pub loop-i-smaller : goal.loop-i-smaller
-loop-i-smaller c = omega (arith, c.blank_at-n.ensures, laws.blanks-le c.args.s.now c.loop-i.i c.loop-i.invariant.1)
+pub loop-n-smaller : goal.loop-n-smaller
+loop-n-smaller c = let n = c.in-Some.ensures in omega (arith, n.0, n.1, laws.blanks-le c.args.s.now c.loop-n.i c.loop-n.invariant)
 
-pub loop-i-preserved : goal.loop-i-preserved
-loop-i-preserved c = (omega (arith, c.blank_at-n.ensures, laws.blanks-le c.args.s.now c.loop-i.i c.loop-i.invariant.1), rw c.blank_at-n.ensures (laws.blanks-more c.args.s.now c.loop-i.i c.loop-i.invariant.1))
+pub loop-n-preserved : goal.loop-n-preserved
+loop-n-preserved c = let n = c.in-Some.ensures in rw n.1 (laws.blanks-more c.args.s.now c.loop-n.i c.loop-n.invariant)
 
 pub returns : goal.returns
-returns c = laws.blanks-end c.args.s.now c.loop-i.i c.loop-i.invariant.1 c.loop-i-test.false
+returns c = laws.blanks-stop c.args.s.now c.loop-n.i c.loop-n.invariant c.in_default.ensures

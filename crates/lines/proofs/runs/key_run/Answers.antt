@@ -1,26 +1,27 @@
-use mathlib.Core.Path.{sym, ◌∙◌}
-use native.Mathlib.Omega.{arith}
 use Prim.Native.Nat.{◌+◌}
+use native.Mathlib.Omega.{arith}
 use Rattle.lines.proofs.LineLook as laws
 use Rattle.lines.proofs.runs.key_run.Goals as goal
 
-pub loop-i-init : goal.loop-i-init
-loop-i-init c = (c.plain_key-i.ensures.passed.high, c.plain_key-i.ensures)
+pub loop-n-init : goal.loop-n-init
+loop-n-init c = c.plain_key-i.ensures
 
-pub returns-then-n-eq0 : goal.returns-then-n-eq0
-returns-then-n-eq0 c = record { passed = c.loop-i.invariant.1.passed; key = c.loop-i.invariant.1.key; stop = sym c.key_char-n.ensures ∙ c.if-n-eq0.true }
+pub key_char-requires : goal.key_char-requires
+key_char-requires c = c.loop-n.invariant.passed.high
 
 pub overflow_add-i : goal.overflow_add-i
-overflow_add-i c = omega (arith, c.key_char-n.ensures, laws.key-le c.args.t.now c.loop-i.i c.loop-i.invariant.0)
+overflow_add-i c = let n = c.in-Some.ensures in omega (arith, n.1, laws.key-le c.args.t.now c.loop-n.i c.loop-n.invariant.passed.high)
 
-pub plain_key-i-requires-in-loop-i : goal.plain_key-i-requires-in-loop-i
-plain_key-i-requires-in-loop-i c = omega (arith, c.key_char-n.ensures, laws.key-le c.args.t.now c.loop-i.i c.loop-i.invariant.0)
+pub plain_key-i-requires-in-Some : goal.plain_key-i-requires-in-Some
+plain_key-i-requires-in-Some c = let n = c.in-Some.ensures in omega (arith, n.1, laws.key-le c.args.t.now c.loop-n.i c.loop-n.invariant.passed.high)
 
-pub loop-i-smaller : goal.loop-i-smaller
-loop-i-smaller c = omega (arith, c.key_char-n.ensures, laws.key-le c.args.t.now c.loop-i.i c.loop-i.invariant.0, c.plain_key-i-in-loop-i.ensures.passed.low, c.plain_key-i-in-loop-i.ensures.passed.high)
+pub loop-n-smaller : goal.loop-n-smaller
+loop-n-smaller c = let n = c.in-Some.ensures in let p = c.plain_key-i-in-Some.ensures.passed in omega (arith, n.0, n.1, laws.key-le c.args.t.now c.loop-n.i c.loop-n.invariant.passed.high, p.low, p.high)
 
-pub loop-i-preserved : goal.loop-i-preserved
-loop-i-preserved c = (c.plain_key-i-in-loop-i.ensures.passed.high, laws.key-on c.args.t.now c.args.from (c.loop-i.i + c.key_char-n.result) c.plain_key-i-in-loop-i.result (rw c.key_char-n.ensures (laws.key-passed c.args.t.now c.args.from c.loop-i.i c.loop-i.invariant.1)) c.plain_key-i-in-loop-i.ensures)
+pub loop-n-preserved : goal.loop-n-preserved
+loop-n-preserved c =
+    let n = c.in-Some.ensures in
+    laws.key-on c.args.t.now c.args.from (c.loop-n.i + c.in-Some.n) c.plain_key-i-in-Some.result (rw n.1 (laws.key-passed c.args.t.now c.args.from c.loop-n.i c.loop-n.invariant)) c.plain_key-i-in-Some.ensures
 
 pub returns : goal.returns
-returns c = record { passed = c.loop-i.invariant.1.passed; key = c.loop-i.invariant.1.key; stop = laws.key-end c.args.t.now c.loop-i.i c.loop-i-test.false }
+returns c = record { passed = c.loop-n.invariant.passed; key = c.loop-n.invariant.key; stop = c.in_default.ensures }

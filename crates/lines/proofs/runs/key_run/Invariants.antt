@@ -1,10 +1,10 @@
-use Prim.Native.Nat.{◌-◌, ◌≤◌}
+use Prim.Native.Nat.{◌-◌}
 use lib.ListN.{length}
 use Rattle.lines.specs.LineForms.{KeyPassed}
 use Rattle.lines.proofs.runs.key_run.Given as goal
 
-abbrev pub invariant-loop-i : goal.invariant-loop-i
-invariant-loop-i l = (l.i ≤ length l.t) × KeyPassed l.t l.from l.i
+abbrev pub invariant-loop-n : goal.invariant-loop-n
+invariant-loop-n l = KeyPassed l.t l.from l.i
 
-abbrev pub decreases-loop-i : goal.decreases-loop-i
-decreases-loop-i l = length l.t - l.i
+abbrev pub decreases-loop-n : goal.decreases-loop-n
+decreases-loop-n l = length l.t - l.i

@@ -1,4 +1,5 @@
-use mathlib.Core.Path.{sym, ◌∙◌}
+use mathlib.Core.Path.{◌≡◌, sym, ◌∙◌}
+use lib.ListN.{length}
 use native.Mathlib.Omega.{arith}
 use borrow.Author.Tests.{not-false}
 use Rattle.lines.proofs.LineLook as laws
@@ -14,4 +15,4 @@ pub loop-i-preserved : goal.loop-i-preserved
 loop-i-preserved c = (omega arith, laws.plain-key-passed c.args.t.now c.args.from c.loop-i.i c.loop-i-test.true (sym c.key_byte.ensures ∙ not-false _ c.if-not-key_byte.false-raw) c.loop-i.invariant.1)
 
 pub returns : goal.returns
-returns c = c.loop-i.invariant.1
+returns c = let e : c.loop-i.i ≡ length c.args.t.now = omega arith in rw e at c.loop-i.invariant.1
