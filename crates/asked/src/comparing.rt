@@ -7,8 +7,10 @@ use sets::{read, rewrite};
 use std::io;
 use std::io::Write;
 
-// FNV-1a, 64 bits: the hash of no bytes.
+// FNV-1a, 64 bits: the hash of no bytes, and what each byte multiplies by.
 const NO_BYTES: u64 = 0xCBF29CE484222325;
+
+const PRIME: u64 = 0x100000001B3;
 
 fn show<W: Write>(to: &mut W, n: u64) -> io::Result<()> {
     write!(to, "{n}")
@@ -18,60 +20,18 @@ fn show_hash<W: Write>(to: &mut W, h: u64) -> io::Result<()> {
     write!(to, "{h:016x}")
 }
 
-// h * 0x100000001B3, modulo 2^64: h * 2^40 and h * 0x1B3, the latter by halves of h.
-fn times_prime(h: u64) -> u64 {
-    let low = (h % 4294967296) * 435;
-    let high = ((h / 4294967296) * 435) << 32;
-    (h << 40).wrapping_add(low.wrapping_add(high))
+// The hash of more bytes behind those hashed before.
+fn with_bytes(before: u64, bytes: &[u8]) -> u64 {
+    bytes
+        .iter()
+        .fold(before, |h, b| (h ^ u64::from(*b)).wrapping_mul(PRIME))
 }
 
-fn with_byte(h: u64, b: u64) -> u64 {
-    times_prime(h ^ b)
-}
-
-// Eight bytes, the low one first.
-fn with_number(before: u64, n: u64) -> u64 {
-    let mut h = before;
-    let mut rest = n;
-    let mut i = 0u64;
-    while i < 8 {
-        h = with_byte(h, rest % 256);
-        rest = rest / 256;
-        i += 1;
-    }
-    h
-}
-
-// A signed number's 64 bits.
-fn bits(z: i64) -> u64 {
-    if z < 0 {
-        return u64::MAX - (-(z + 1) as u64);
-    }
-    z as u64
-}
-
+// Each number as its eight bytes, the low one first.
 fn hash_table(table: &[i64]) -> u64 {
-    let mut h = NO_BYTES;
-    let mut i = 0;
-    while i < table.len() {
-        h = with_number(h, bits(table[i]));
-        i += 1;
-    }
-    h
-}
-
-fn wide(b: u8) -> u64 {
-    b as u64
-}
-
-fn hash_bytes(bytes: &[u8]) -> u64 {
-    let mut h = NO_BYTES;
-    let mut i = 0;
-    while i < bytes.len() {
-        h = with_byte(h, wide(bytes[i]));
-        i += 1;
-    }
-    h
+    table
+        .iter()
+        .fold(NO_BYTES, |h, z| with_bytes(h, &z.to_le_bytes()))
 }
 
 fn show_reading<W: Write>(
@@ -90,7 +50,7 @@ fn show_rewriting<W: Write>(to: &mut W, spool: &[u8], out: &mut [u8]) -> io::Res
     soil_output(out);
     shows::answer(to, rewrite(spool, out))?;
     shows::space(to)?;
-    show_hash(to, hash_bytes(out))
+    show_hash(to, with_bytes(NO_BYTES, out))
 }
 
 pub fn compare<W: Write>(

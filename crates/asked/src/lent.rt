@@ -3,45 +3,29 @@ use std::io;
 use std::io::Write;
 
 pub fn soil_table(table: &mut [i64]) {
-    let mut i = 0;
-    while i < table.len() {
-        table[i] = -7;
-        i += 1;
-    }
+    table.fill(-7);
 }
 
 pub fn soil_output(out: &mut [u8]) {
-    let mut i = 0;
-    while i < out.len() {
-        out[i] = 165;
-        i += 1;
-    }
+    out.fill(165);
 }
 
 // Says so where a number of the table from this place on is not 0.
-pub fn table_leavings<W: Write>(to: &mut W, from: u64, table: &[i64]) -> io::Result<()> {
-    let mut i = 0;
-    while i < table.len() {
-        if from <= i as u64 {
-            if table[i] != 0 {
-                return to.write_all(b"the rest of the table is not zero\n");
-            }
+pub fn table_leavings<W: Write>(to: &mut W, from: usize, table: &[i64]) -> io::Result<()> {
+    match table.get(from..) {
+        Some(rest) if rest.iter().any(|z| *z != 0) => {
+            to.write_all(b"the rest of the table is not zero\n")
         }
-        i += 1;
+        _ => Ok(()),
     }
-    Ok(())
 }
 
 // Says so where a byte of the output from this place on is not 0.
 pub fn output_leavings<W: Write>(to: &mut W, from: usize, out: &[u8]) -> io::Result<()> {
-    let mut i = 0;
-    while i < out.len() {
-        if from <= i {
-            if out[i] != 0 {
-                return to.write_all(b"the rest of the output is not zero\n");
-            }
+    match out.get(from..) {
+        Some(rest) if rest.iter().any(|b| *b != 0) => {
+            to.write_all(b"the rest of the output is not zero\n")
         }
-        i += 1;
+        _ => Ok(()),
     }
-    Ok(())
 }

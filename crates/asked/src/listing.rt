@@ -12,8 +12,8 @@ pub fn list<W: Write>(to: &mut W, spool: &[u8], front: Front, table: &mut [i64])
     match answer {
         Ok(count) => {
             shows::records(to, count as u64, table)?;
-            table_leavings(to, 32 * count as u64, table)
+            table_leavings(to, 32 * count as usize, table)
         }
-        Err(_f) => table_leavings(to, 0, table),
+        Err(_) => table_leavings(to, 0, table),
     }
 }

@@ -3,24 +3,45 @@
 // its wire part, the lengths of a table and of an output to be lent, the length of a spool, and the spool. tools/frames.py frames them.
 #![tactic(auto)]
 
+ghost use Rattle.std.specs.Prelude.{⊤};
+
 mod comparing;
 mod lent;
 mod listing;
 mod rewriting;
 
 use shows::input::read_all;
-use shows::questions::{END, MOST_QUESTIONS, next_spool, pair};
+use shows::questions::{MOST_QUESTIONS, next_spool};
 use std::io;
 use std::io::{Read, Write};
 
-// What is asked: a spool's records, listed.
-const LIST: u8 = b'l';
+// What is asked: a spool's records, listed; its fixed form, read back and rewritten; what reader, check and rewriter answer, in the
+// reference's line.
+#[derive(Clone, Copy, Debug, PartialEq, Eq)]
+enum Asked {
+    List,
+    Rewrite,
+    Compare,
+}
 
-// Its fixed form, read back and rewritten.
-const REWRITE: u8 = b'w';
+// The byte asks for nothing that is known.
+#[derive(Clone, Copy, Debug, PartialEq, Eq)]
+struct NothingKnown;
 
-// What reader, check and rewriter answer, in the reference's line.
-const COMPARE: u8 = b'c';
+impl TryFrom<u8> for Asked {
+    type Error = NothingKnown;
+
+    ghost try_from_gives = { λ _ _. ⊤ };
+
+    fn try_from(byte: u8) -> Result<Self, NothingKnown> {
+        match byte {
+            b'l' => Ok(Asked::List),
+            b'w' => Ok(Asked::Rewrite),
+            b'c' => Ok(Asked::Compare),
+            _ => Err(NothingKnown),
+        }
+    }
+}
 
 // What is asked, the class, the wire part, three lengths.
 const HEAD: usize = 15;
@@ -37,11 +58,7 @@ const MOST_OUT: usize = 65536;
 
 // Four bytes, high first.
 fn number(a: u8, b: u8, c: u8, d: u8) -> usize {
-    65536 * pair(a, b) + pair(c, d)
-}
-
-fn wide(b: u8) -> u64 {
-    b as u64
+    u32::from_be_bytes([a, b, c, d]) as usize
 }
 
 // The front end that is asked for: its class, and the class's wire part.
@@ -61,63 +78,54 @@ struct Head {
     spool: usize,
 }
 
-// The next question's head; where there is none, one of a spool that is too long for any room.
-fn next_head<R: Read>(from: &mut R) -> Head {
+// The next question's head, where there is one.
+fn next_head<R: Read>(from: &mut R) -> Option<Head> {
     let mut head = [0u8; HEAD];
     if read_all(from, &mut head).bytes < HEAD {
-        return Head {
-            what: 0,
-            front: Front { cls: 0, wire: 0 },
-            numbers: 0,
-            bytes: 0,
-            spool: END,
-        };
+        return None;
     }
-    Head {
+    Some(Head {
         what: head[0],
         front: Front {
-            cls: wide(head[1]),
-            wire: wide(head[2]),
+            cls: u64::from(head[1]),
+            wire: u64::from(head[2]),
         },
         numbers: number(head[3], head[4], head[5], head[6]),
         bytes: number(head[7], head[8], head[9], head[10]),
         spool: number(head[11], head[12], head[13], head[14]),
-    }
+    })
 }
 
-// The length of the question's spool, which is read where it is not the one before; END where there is none.
-fn spool_length<R: Read>(from: &mut R, len: usize, before: usize, spool: &mut [u8]) -> usize {
+// The length of the question's spool, which is read where it is not the one before; none where there is no room for it or it ends too soon.
+fn spool_length<R: Read>(
+    from: &mut R,
+    len: usize,
+    before: usize,
+    spool: &mut [u8],
+) -> Option<usize> {
     if len == SAME_SPOOL {
-        return before;
+        return Some(before);
     }
     next_spool(from, len, spool)
 }
 
-// Prints the answer; false where the byte asks for nothing that is known.
-fn answered<W: Write>(
+// Prints the answer.
+fn answer<W: Write>(
     to: &mut W,
-    what: u8,
+    what: Asked,
     front: Front,
     spool: &[u8],
     table: &mut [i64],
     out: &mut [u8],
-) -> io::Result<bool> {
-    if what == LIST {
-        listing::list(to, spool, front, table)?;
-        return Ok(true);
+) -> io::Result<()> {
+    match what {
+        Asked::List => listing::list(to, spool, front, table),
+        Asked::Rewrite => rewriting::rewrite_twice(to, spool, out),
+        Asked::Compare => comparing::compare(to, spool, front, table, out),
     }
-    if what == REWRITE {
-        rewriting::rewrite_twice(to, spool, out)?;
-        return Ok(true);
-    }
-    if what == COMPARE {
-        comparing::compare(to, spool, front, table, out)?;
-        return Ok(true);
-    }
-    Ok(false)
 }
 
-// Reads a question, answers it, and gives the length of its spool; END where there is none, no room for it, or nothing known is asked.
+// Reads a question, answers it, and gives the length of its spool; none where there is no question, no room for it, or nothing known is asked.
 fn question<R: Read, W: Write>(
     from: &mut R,
     to: &mut W,
@@ -125,31 +133,30 @@ fn question<R: Read, W: Write>(
     spool: &mut [u8],
     table: &mut [i64],
     out: &mut [u8],
-) -> io::Result<usize> {
-    let head = next_head(from);
+) -> io::Result<Option<usize>> {
+    let Some(head) = next_head(from) else {
+        return Ok(None);
+    };
     let numbers = head.numbers;
     let bytes = head.bytes;
-    let len = spool_length(from, head.spool, before, spool);
-    if spool.len() < len {
-        return Ok(END);
+    let Some(len) = spool_length(from, head.spool, before, spool) else {
+        return Ok(None);
+    };
+    if spool.len() < len || table.len() < numbers || out.len() < bytes {
+        return Ok(None);
     }
-    if table.len() < numbers {
-        return Ok(END);
-    }
-    if out.len() < bytes {
-        return Ok(END);
-    }
-    if answered(
+    let Ok(what) = Asked::try_from(head.what) else {
+        return Ok(None);
+    };
+    answer(
         to,
-        head.what,
+        what,
         head.front,
         &spool[..len],
         &mut table[..numbers],
         &mut out[..bytes],
-    )? {
-        return Ok(len);
-    }
-    Ok(END)
+    )?;
+    Ok(Some(len))
 }
 
 fn show_count<W: Write>(to: &mut W, asked: usize) -> io::Result<()> {
@@ -163,13 +170,12 @@ fn main(rt: HostRuntime) -> io::Result<()> {
     let mut from = rt.stdin();
     let mut to = rt.stdout();
     let mut len = 0;
-    let mut asked = 0;
-    while asked < MOST_QUESTIONS {
-        len = question(&mut from, &mut to, len, &mut spool, &mut table, &mut out)?;
-        if len == END {
+    for asked in 0..MOST_QUESTIONS {
+        let next = question(&mut from, &mut to, len, &mut spool, &mut table, &mut out)?;
+        let Some(read) = next else {
             return show_count(&mut to, asked);
-        }
-        asked += 1;
+        };
+        len = read;
     }
-    show_count(&mut to, asked)
+    show_count(&mut to, MOST_QUESTIONS)
 }

@@ -5,10 +5,11 @@ use sets::{read, rewrite};
 use std::io;
 use std::io::Write;
 
-const MOST_RECORDS: usize = 256;
+// A record's numbers.
+const WIDTH: usize = 32;
 
-// 256 records of 32 numbers.
-const MOST_NUMBERS: usize = 8192;
+// 256 records.
+const MOST_NUMBERS: usize = 256 * WIDTH;
 
 const MOST_WRITTEN: usize = 61440;
 
@@ -46,32 +47,22 @@ fn is_place(kind: i64, i: usize) -> bool {
     i == 3 || is_text_place(kind, i)
 }
 
-// A record's number at i, but a place made 0.
-fn apart(kind: i64, i: usize, z: i64) -> i64 {
-    if is_place(kind, i) {
-        return 0;
-    }
-    z
-}
-
+// A record, its places made 0.
 fn without_places(rec: &mut [i64]) {
-    let mut i = 0;
-    while i < rec.len() {
-        rec[i] = apart(rec[0], i, rec[i]);
-        i += 1;
+    let Some(kind) = rec.first().copied() else {
+        return;
+    };
+    for (i, z) in rec.iter_mut().enumerate() {
+        if is_place(kind, i) {
+            *z = 0;
+        }
     }
 }
 
 // The records of a table without their places.
 fn places_apart(table: &mut [i64]) {
-    let mut i = 0;
-    while i < MOST_RECORDS {
-        let from = 32 * i;
-        if table.len() < from + 32 {
-            return;
-        }
-        without_places(&mut table[from..from + 32]);
-        i += 1;
+    for rec in table.chunks_exact_mut(WIDTH) {
+        without_places(rec);
     }
 }
 
@@ -98,7 +89,7 @@ fn written_bytes<W: Write>(to: &mut W, spool: &[u8], out: &mut [u8]) -> io::Resu
             output_leavings(to, count as usize, out)?;
             Ok(count as usize)
         }
-        Err(_f) => {
+        Err(_) => {
             output_leavings(to, 0, out)?;
             Ok(0)
         }

@@ -99,8 +99,7 @@ pub fn records<W: Write>(out: &mut W, count: u64, table: &[i64]) -> io::Result<(
     ensures enough { OnOk result (32 * count ≤ length table.now) }
     ensures printed { OnOk result (Appends (W.contents out.old) (W.contents out.new) (record_lines count table.now)) }
 {
-    let mut i = 0;
-    while i < MOST_RECORDS {
+    for i in 0..MOST_RECORDS {
         if count <= i as u64 {
             return Ok(());
         }
@@ -109,7 +108,6 @@ pub fn records<W: Write>(out: &mut W, count: u64, table: &[i64]) -> io::Result<(
             return Err(nothing_there());
         }
         record(out, &table[from..from + 32])?;
-        i += 1;
     }
     if count <= MOST_RECORDS as u64 {
         return Ok(());
@@ -125,6 +123,6 @@ pub fn listing<W: Write>(out: &mut W, answer: Result<u32, Refusal>, table: &[i64
     answer_line(out, answer)?;
     match answer {
         Ok(count) => records(out, count as u64, table),
-        Err(_f) => Ok(()),
+        Err(_) => Ok(()),
     }
 }

@@ -13,13 +13,10 @@ use rules::Refusal;
 fn put_minus(n: u64, out: &mut [u8]) -> Result<usize, NoRoom>
     ensures { Puts (45 ∷ show_number n) out.old out.new result }
 {
-    if out.len() == 0 {
+    if out.is_empty() {
         return Err(NoRoom);
     }
-    let number = put_count(n, &mut out[1..]);
-    let Ok(digits) = number else {
-        return Err(NoRoom);
-    };
+    let digits = put_count(n, &mut out[1..])?;
     out[0] = b'-';
     Ok(digits + 1)
 }
@@ -38,14 +35,11 @@ fn put_signed(z: i64, out: &mut [u8]) -> Result<usize, NoRoom>
 fn put_ended(z: i64, end: u8, out: &mut [u8]) -> Result<usize, NoRoom>
     ensures { Puts (show_signed z ++ end ∷ []) out.old out.new result }
 {
-    if out.len() == 0 {
+    if out.is_empty() {
         return Err(NoRoom);
     }
     let room = out.len() - 1;
-    let number = put_signed(z, &mut out[..room]);
-    let Ok(n) = number else {
-        return Err(NoRoom);
-    };
+    let n = put_signed(z, &mut out[..room])?;
     out[n] = end;
     Ok(n + 1)
 }
@@ -71,20 +65,17 @@ fn put_empty(out: &mut [u8]) -> Result<usize, NoRoom>
 pub fn put_line(zs: &[i64], out: &mut [u8]) -> Result<usize, NoRoom>
     ensures { Lays (print_line zs.now) out.old out.new result }
 {
-    if zs.len() == 0 {
+    if zs.is_empty() {
         return put_empty(out);
     }
     let mut at = 0;
-    let mut i = 0;
-    while i < zs.len() {
+    for (i, z) in zs.iter().enumerate() {
         let end = end_before(zs.len() - i - 1);
-        let number = put_ended(zs[i], end, &mut out[at..]);
-        let Ok(n) = number else {
+        let Ok(n) = put_ended(*z, end, &mut out[at..]) else {
             clear(out);
             return Err(NoRoom);
         };
         at += n;
-        i += 1;
     }
     Ok(at)
 }
