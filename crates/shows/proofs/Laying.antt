@@ -1,5 +1,5 @@
 -- A line laid number by number, each with the byte behind it.
-use Rattle.std.specs.Prelude.{Result, Ok, Err}
+use Rattle.std.specs.Prelude.{Result, Ok, Err, IsErr}
 use Prim.Native.Nat.{ℕ, suc, ◌+◌, ◌-◌, ◌<◌, ◌≤◌}
 use mathlib.Core.Path.{◌≡◌, refl, ap, ap₂, sym, subst, ◌∙◌}
 use mathlib.Core.List.{List, [], ◌∷◌, ◌++◌, map, append-nil, append_assoc}
@@ -10,6 +10,7 @@ use lib.IntN.{ℤ, pos, negsuc}
 use lib.Signed.{mag, lt_z}
 use lib.ListN.{length, get_or, take, drop, set, length-drop, length-append, take-append-drop, drop_of_length-le, replicate}
 use lib.Seq.{append_snoc, drop-append-le, drop_at, drop-cons, drop-drop, length-take-le, set_split, take_at}
+use borrow.Author.Rules.{rules}
 use borrow.Author.Tests.{ltb-true, le-leb, lt-leb, ne_eqb}
 use borrow.Rule.Slice.PartMut.{put_mid, same_len_mid}
 use Rattle.rules.specs.Base.{join}
@@ -33,6 +34,11 @@ shown-below (negsuc n) e = refl
 pub shown-not-below : (z : ℤ) → lt_z z (pos 0) ≡ false → show_signed z ≡ show_number (mag z)
 shown-not-below (pos n) e = refl
 shown-not-below (negsuc n) e = absurd (let q : ◌≡◌ {A = ℕ} 0 1 = cc in omega arith)
+
+-- ── an error is that there was no room ──
+pub nowhere : (r : Result ℕ NoRoom) → IsErr r → r ≡ Err no_room
+nowhere (Err e) h = refl
+nowhere (Ok n) h = search rules
 
 -- ── a text and the byte behind it, where the text was lent one byte less ──
 module _ (text out after : List ℕ) (r : Result ℕ NoRoom) (h : length out ≡ 0 → ⊥) (p : Puts text (take (length out - 1) out) after r) (b : ℕ) where
