@@ -8,7 +8,7 @@ use native.Mathlib.Nat.{lt_of_lt_of_le}
 use native.Mathlib.Omega.{arith}
 use lib.Dec.{eqb, leb}
 use lib.IntN.{ℤ, pos}
-use lib.ListN.{get_or-eq_default, length, get_or, take, drop, length-append, length-drop, take-append-drop}
+use lib.ListN.{length, get_or, take, drop, length-append, length-drop, take-append-drop}
 use lib.Seq.{drop-drop, length-take-le, take-suc, get_or-drop}
 use borrow.Author.Tests.{eq-eqb, ne_eqb, eqb-true, le-leb, lt-leb, leb-true, leb-false}
 use Rattle.rules.specs.Base.{all, within, is_nil, map_o, whole, parts, cut, onto}
@@ -57,13 +57,6 @@ module _ (s : List ℕ) (a i : ℕ) (h : a ≤ i) (k : i ≤ length s) where
   run_long : length (take (i - a) (drop a s)) ≡ i - a
   run_long = length-take-le (i - a) (drop a s) (omega (arith, length-drop a s))
 
--- a run that stops, at a byte that is no digit or where it must
-pub run-stops : (s : List ℕ) (a most v i : ℕ) → DigitsRead s a most (record { value = v; end = i }) → is_digit (get_or s i 0) ≡ false → RunRead s a most (record { value = v; end = i })
-run-stops s a most v i r e = record { read = r; stop = λ h. e }
-
-pub run-full : (s : List ℕ) (a most v i : ℕ) → DigitsRead s a most (record { value = v; end = i }) → (i < a + most → length s ≤ i) → RunRead s a most (record { value = v; end = i })
-run-full s a most v i r h = record { read = r; stop = λ k. ap is_digit (get_or-eq_default s 0 (h k)) }
-
 -- one more digit
 value-snoc : (v : ℕ) (d : List ℕ) (b : ℕ) → value_from v (d ++ b ∷ []) ≡ value_from v d * 10 + (b - 48)
 value-snoc v [] b = refl
@@ -86,11 +79,6 @@ module _ (s : List ℕ) (a i : ℕ) (h : a ≤ i) (k : i < length s) where
 
   next-value : (v : ℕ) → v ≡ value (take (i - a) (drop a s)) → v * 10 + (get_or s i 0 - 48) ≡ value (take (i + 1 - a) (drop a s))
   next-value v e = rw next-digit (rw e (sym (value-snoc 0 (take (i - a) (drop a s)) (get_or s i 0))))
-
-pub run-start : (s : List ℕ) (a most : ℕ) → a ≤ length s → DigitsRead s a most (record { value = 0; end = a })
-run-start s a most h =
-    let e : a - a ≡ 0 = omega arith in
-    record { start = omega arith; room = h; few = omega arith; digits = rw e; number = rw e }
 
 module _ (s : List ℕ) (a most v i : ℕ) (r : DigitsRead s a most (record { value = v; end = i })) where
   pub run-next : i < length s → i < a + most → is_digit (get_or s i 0) ≡ true → DigitsRead s a most (record { value = v * 10 + (get_or s i 0 - 48); end = i + 1 })
@@ -322,26 +310,6 @@ module _ (s : List ℕ) (k : ℕ) (g : k ≡ sign_length s) where
     pub plain-piece : (k ≡ 1 → ⊥) → piece_at z.end (pos z.value) ≡ decimal_piece s
     unfolding decimal_piece
     plain-piece o = let w = size-was s k z h in rw (behind_sign, w.0, ne_eqb k 1 o, end-behind, w.1)
-
-pub sign-none : (s : List ℕ) → length s ≡ 0 → ◌≡◌ {A = ℕ} 0 (sign_length s)
-sign-none [] h = refl
-sign-none (b ∷ s) h = absurd (omega arith)
-
-pub sign-minus : (s : List ℕ) → (length s ≡ 0 → ⊥) → get_or s 0 0 ≡ 45 → ◌≡◌ {A = ℕ} 1 (sign_length s)
-sign-minus [] h e = absurd (h refl)
-sign-minus (b ∷ s) h e = sym (rw (eq-eqb b 45 e))
-
-pub sign-other : (s : List ℕ) → (length s ≡ 0 → ⊥) → (get_or s 0 0 ≡ 45 → ⊥) → ◌≡◌ {A = ℕ} 0 (sign_length s)
-sign-other [] h e = absurd (h refl)
-sign-other (b ∷ s) h e = sym (rw (ne_eqb b 45 e))
-
-pub sign-within : (s : List ℕ) → sign_length s ≤ length s
-sign-within [] = omega arith
-sign-within (b ∷ s) = go (eqb b 45)
-  where
-    go : (t : Bool) → cond t 1 0 ≤ suc (length s)
-    go true = omega arith
-    go false = omega arith
 
 -- ── a decimal holds no comma ──
 both_no : (a w b x : Bool) → (a && b) ≡ false → ((a && w) && (b && x)) ≡ false

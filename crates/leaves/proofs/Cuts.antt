@@ -1,6 +1,6 @@
 -- What stands before and behind a byte: as parts of the list, and as the pieces that `split` and `cut` make.
 use Prim.Native.Nat.{ℕ, suc, ◌+◌, ◌<◌, ◌≤◌, zero-le, suc-le-suc}
-use mathlib.Core.Path.{◌≡◌, refl, ap, sym, ◌∙◌}
+use mathlib.Core.Path.{◌≡◌, refl, ap, ◌∙◌}
 use mathlib.Core.List.{List, [], ◌∷◌}
 use mathlib.Core.Bool.{true, false, cond}
 use native.Mathlib.Numerals.{add-one}
@@ -56,9 +56,6 @@ split-more c (b ∷ s) = elim (eqb b c) as (λ t. length (cond t [] (b ∷ up_to
 module _ (c : ℕ) (s : List ℕ) (e : ℕ) (p : e ≡ length (up_to c s)) where
   pub piece-first : take e s ≡ up_to c s
   piece-first = rw p (up_to-take c s)
-
-  pub piece-last : length s ≤ e → split c s ≡ up_to c s ∷ []
-  piece-last h = split-last c s (rw p at h) ∙ ap (λ (l : List ℕ). l ∷ []) (sym (up_to-none c s (rw p at h)))
 
   pub piece-more : e < length s → split c s ≡ up_to c s ∷ split c (drop (e + 1) s)
   piece-more h =

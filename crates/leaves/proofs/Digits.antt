@@ -1,7 +1,7 @@
 -- Runs of digits: one step of reading them by index, and what the number read is below.
 use Rattle.std.specs.Prelude.{Option, Some, None}
 use Prim.Native.Nat.{ℕ, suc, ◌+◌, ◌-◌, ◌*◌, ◌^◌, ◌<◌, ◌≤◌}
-use mathlib.Core.Path.{◌≡◌, refl, sym}
+use mathlib.Core.Path.{◌≡◌, refl}
 use mathlib.Core.List.{List, [], ◌∷◌}
 use mathlib.Core.Bool.{Bool, true, false, cond}
 use native.Mathlib.Numerals.{add-one}
@@ -42,9 +42,6 @@ ten-most i m h = pow-le-pow_right (lit≤ tt) h
 
 -- ── how many ──
 module _ (lo hi : ℕ) (s : List ℕ) where
-  pub run_short : length s < lo → read_run lo hi s ≡ None
-  run_short h = rw (lt-leb lo (length s) h, and_false (all is_digit s))
-
   pub run_long : lo ≤ length s → hi < length s → read_run lo hi s ≡ None
   run_long l h = rw (le-leb lo (length s) l, lt-leb (length s) hi h, and_false (all is_digit s))
 
@@ -94,18 +91,6 @@ run-below lo hi s = on-cond (λ n. n < 10 ^ hi) (digit_run lo hi s) (value s) λ
     lt_of_lt_of_le (value_lt s (and_left (all is_digit s) _ e)) (ten-most (length s) hi (run_length lo hi s e))
 
 -- ── a test behind a reading ──
-pub kept_yes : (p : ℕ → Bool) (o : Option ℕ) (n : ℕ) → o ≡ Some n → p n ≡ true → kept p o ≡ Some n
-kept_yes p None n e h = e
-kept_yes p (Some m) n e h = let q : m ≡ n = cc in rw (q, h)
-
-pub kept_no : (p : ℕ → Bool) (o : Option ℕ) (n : ℕ) → o ≡ Some n → p n ≡ false → kept p o ≡ None
-kept_no p None n e h = refl
-kept_no p (Some m) n e h = let q : m ≡ n = cc in rw (q, h)
-
-pub kept-none : (p : ℕ → Bool) (o : Option ℕ) → o ≡ None → kept p o ≡ None
-kept-none p None e = refl
-kept-none p (Some m) e = not_is (sym e)
-
 pub kept-below : (p : ℕ → Bool) (m : ℕ) (o : Option ℕ) → OnSome (λ n. n < m) o → OnSome (λ n. n < m) (kept p o)
 kept-below p m None h = tt
 kept-below p m (Some n) h = on-cond (λ k. k < m) (p n) n (λ e. h)

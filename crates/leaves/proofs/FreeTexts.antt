@@ -2,7 +2,7 @@
 use Prim.Native.Nat.{ℕ, zero, suc}
 use mathlib.Core.Path.{◌≡◌, refl}
 use mathlib.Core.List.{List, [], ◌∷◌, ◌++◌, map}
-use mathlib.Core.Bool.{Bool, true, false, cond, ◌&&◌}
+use mathlib.Core.Bool.{Bool, cond}
 use lib.ListN.{get_or}
 use Rattle.rules.specs.Rows.{Rule}
 use Rattle.rules.specs.Values.{Bytes, any_bytes, ascii, letters_and_digits, telephone, circuit_bytes, Kind, is_free}
@@ -35,9 +35,3 @@ free_kinds (r ∷ rs) = cond (is_free r.holds) (r.holds ∷ free_kinds rs) (free
 pub text-rules : (in_layer : Bool) (p q : ℕ) → map text_kind text_rules ≡ free_kinds (file_table ++ drawing_table ++ text_table in_layer p q) ++ layer_name_kind ∷ []
 unfolding text_rules file_table drawing_table text_table
 text-rules in_layer p q = refl
-
-pub and_comm : (a b : Bool) → (a && b) ≡ (b && a)
-and_comm true true = refl
-and_comm true false = refl
-and_comm false true = refl
-and_comm false false = refl

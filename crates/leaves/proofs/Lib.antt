@@ -1,6 +1,5 @@
 pub mod Scan
 pub mod Words
-pub mod Capitals
 pub mod Cuts
 pub mod Digits
 pub mod Decimals

@@ -6,21 +6,19 @@ use mathlib.Core.Bool.{Bool, true, false, cond, ◌&&◌, not}
 use native.Mathlib.Numerals.{add-one}
 use native.Mathlib.Nat.{le_of_eq}
 use native.Mathlib.Omega.{arith}
-use lib.Dec.{eqb, leb, ltb}
+use lib.Dec.{eqb, ltb}
 use lib.ListN.{length, get_or, drop, take, drop_of_length-le, length-drop}
 use lib.Seq.{drop-cons, take_all}
-use borrow.Author.Tests.{eq-eqb, ne_eqb, leb-true, ltb-false}
+use borrow.Author.Tests.{eq-eqb, ne_eqb, ltb-false}
 use Rattle.std.specs.Prelude.{Option, Some, None}
 use Rattle.std.proofs.lemmas.List.Sums.{prefix_len-le-length}
 use Rattle.std.specs.Cmp.Lexicographic.{pointwise}
 use Rattle.std.specs.List.{list_all, position, position_or_len}
 use Rattle.std.specs.Option.{unwrap_or}
-use Rattle.rules.specs.Base.{all, same, within}
-use Rattle.rules.specs.Lines.{allowed_from}
-use Rattle.rules.specs.Numbers.{is_digit}
-use Rattle.rules.specs.Values.{any_bytes, byte_in, is_layer_id}
+use Rattle.rules.specs.Base.{all, same}
+use Rattle.rules.specs.Values.{any_bytes, byte_in}
 use Rattle.rules.proofs.Chains.{and_false}
-use Rattle.leaves.specs.Bytes.{bytes_of, up_to, may_stand, starts_pair, is_layer_letter}
+use Rattle.leaves.specs.Bytes.{bytes_of, up_to}
 
 -- the step itself: the list from i on is the byte at i and the list from i + 1 on
 pub at : (s : List ℕ) (i : ℕ) → i < length s → drop i s ≡ get_or s i 0 ∷ drop (i + 1) s
@@ -94,59 +92,7 @@ all_any n s h₁ h₂ h₃ h₄ = rw (ne_eqb n 1 h₁, ne_eqb n 2 h₂, ne_eqb n
     go [] = refl
     go (b ∷ s) = go s
 
-module _ (p : ℕ → Bool) (s : List ℕ) (i : ℕ) where
-  pub all-step : i < length s → p (get_or s i 0) ≡ true → all p (drop i s) ≡ all p (drop (i + 1) s)
-  all-step h e = rw (at s i h, e)
-
-  pub all-not : i < length s → p (get_or s i 0) ≡ false → all p (drop i s) ≡ false
-  all-not h e = rw (at s i h, e)
-
-  pub all_end : length s ≤ i → all p (drop i s) ≡ true
-  all_end h = rw (drop_of_length-le s h)
-
--- ── allowed bytes ──
-module _ (lead : Bool) (s : List ℕ) (i : ℕ) where
-  pub allowed-step : i < length s → may_stand lead (get_or s i 0) ≡ true → allowed_from lead (drop i s) ≡ allowed_from (starts_pair lead (get_or s i 0)) (drop (i + 1) s)
-  allowed-step h e = rw (at s i h, e)
-
-  pub allowed-not : i < length s → may_stand lead (get_or s i 0) ≡ false → allowed_from lead (drop i s) ≡ false
-  allowed-not h e = rw (at s i h, e)
-
-  pub allowed-end : length s ≤ i → allowed_from lead (drop i s) ≡ not lead
-  allowed-end h = rw (drop_of_length-le s h)
-
 -- ── a layer's id, by its five bytes ──
-abbrev pub five_of : List ℕ → Bool
-five_of s = is_layer_letter (get_or s 0 0) && (eqb (get_or s 1 0) 95 && (is_digit (get_or s 2 0) && (is_digit (get_or s 3 0) && is_digit (get_or s 4 0))))
-
 pub and_truth : (b : Bool) → (b && true) ≡ b
 and_truth true = refl
 and_truth false = refl
-
-three : (a b c d e : Bool) → (a && ((b && true) && ((c && (d && (e && true))) && true))) ≡ (a && (b && (c && (d && e))))
-three a b c d e = rw (and_truth b, and_truth e, and_truth (c && (d && e)))
-
-pub layer-five : (s : List ℕ) → length s ≡ 5 → is_layer_id s ≡ five_of s
-layer-five [] h = absurd (omega arith)
-layer-five (a ∷ []) h = absurd (omega arith)
-layer-five (a ∷ b ∷ []) h = absurd (omega arith)
-layer-five (a ∷ b ∷ c ∷ []) h = absurd (omega arith)
-layer-five (a ∷ b ∷ c ∷ d ∷ []) h = absurd (omega arith)
-layer-five (a ∷ b ∷ c ∷ d ∷ e ∷ []) h = three (is_layer_letter a) (eqb b 95) (is_digit c) (is_digit d) (is_digit e)
-layer-five (a ∷ b ∷ c ∷ d ∷ e ∷ f ∷ s) h = absurd (omega arith)
-
--- a width that is not w
-not-width : (w n : ℕ) → (n ≡ w → ⊥) → within w w n ≡ false
-not-width w n h = go (leb w n) refl (leb n w) refl
-  where
-    go : (a : Bool) → leb w n ≡ a → (b : Bool) → leb n w ≡ b → within w w n ≡ false
-    go false p b q = rw p
-    go true p false q = rw (p, q)
-    go true p true q = absurd (h (let l = leb-true w n p in let g = leb-true n w q in omega arith))
-
-pub layer-not-five : (s : List ℕ) → (length s ≡ 5 → ⊥) → is_layer_id s ≡ false
-layer-not-five [] h = refl
-layer-not-five (a ∷ []) h = and_false (is_layer_letter a)
-layer-not-five (a ∷ b ∷ s) h =
-    let n : within 3 3 (length s) ≡ false = not-width 3 (length s) (λ e. h (omega arith)) in
-    rw (n, and_false (all is_digit s), and_false (eqb b 95 && true), and_false (is_layer_letter a))

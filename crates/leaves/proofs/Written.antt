@@ -2,19 +2,17 @@
 use Rattle.std.specs.Prelude.{Result, Ok, Err}
 use Prim.Native.Nat.{ℕ, zero, suc, ◌+◌, ◌-◌, ◌/◌, ◌%◌, ◌<◌, ◌≤◌}
 use mathlib.Core.Path.{◌≡◌, refl, ap, sym, subst, ◌∙◌}
-use mathlib.Core.List.{List, [], ◌∷◌, ◌++◌, append-nil, append_assoc}
+use mathlib.Core.List.{List, [], ◌∷◌, ◌++◌, append-nil}
 use mathlib.Core.Bool.{Bool, true, false, cond, not}
 use native.Mathlib.Omega.{arith}
-use lib.ListN.{length, get_or, take, drop, set, length-set, length-drop, length-append, drop_of_length-le}
-use lib.Seq.{take-suc, take-append-add, drop-append-add, drop-append-le, take_at, take_all, drop-length, append_snoc, drop-cons, drop-set-lt, get_or-set_same, drop_at, drop-drop, length-take-le}
+use lib.ListN.{length, get_or, take, drop, set, length-set, length-drop, length-append}
+use lib.Seq.{take-suc, take-append-add, drop-append-add, drop-append-le, take_at, take_all, drop-length, append_snoc, drop-cons, drop-set-lt, get_or-set_same}
 use borrow.Author.Tests.{le-leb, lt-leb, eq-eqb, ne_eqb, leb-true, leb-false}
 use lib.Dec.{eqb, leb}
 use Rattle.std.specs.List.{position_or_len}
-use borrow.Rule.Slice.PartMut.{put_mid, put_same, same_len_mid}
-use Rattle.rules.specs.Numbers.{fixed_onto, fixed, trim, end_onto, trim_end, show_count, show_size}
-use Rattle.rules.specs.Values.{show_sheet, show_ratio}
+use borrow.Rule.Slice.PartMut.{put_mid}
+use Rattle.rules.specs.Numbers.{fixed_onto, fixed, trim, end_onto, trim_end, show_size}
 use Rattle.leaves.specs.Writing.{Puts, laid_size}
-use Rattle.leaves.proofs.Scan.{rest_all}
 use Rattle.leaves.specs.declared.NoRoom.{NoRoom}
 use Rattle.leaves.specs.NoRoom.{no_room}
 
@@ -197,89 +195,3 @@ module _ (x : ℕ) (text after : List ℕ) (r : Result ℕ NoRoom) where
       let w = was-bytes text s after n (rw (rest_of_lem b s, e) at p) in
       let l : n + 1 ≡ suc (length text) = omega (arith, w.0) in
       subst (λ (q : List ℕ). Puts (x ∷ text) (b ∷ s) (set q 0 x) (Ok (n + 1))) (sym (put_rest b s after)) (rw l (fits (x ∷ text) (b ∷ s) (suc (length text)) refl (omega (arith, w.1)) (x ∷ after) (ap (λ (q : List ℕ). x ∷ q) w.2)))
-
--- ── one text behind another ──
-module _ (a b before after : List ℕ) (r : Result ℕ NoRoom) (h : length a ≤ length before) (p : Puts b (take (length before - length a) (drop (length a) before)) after r) where
-  rest_put : Puts b (drop (length a) before) after r
-  rest_put = rw (rest_all (length a) before) at p
-
-  part-back : put_mid (length a) (length before - length a) before (drop (length a) before) ≡ before
-  part-back =
-      ap (put_mid (length a) (length before - length a) before) (sym (rest_all (length a) before)) ∙ put_same (length a) (length before - length a) before
-
-  pub both-full : r ≡ Err no_room → Puts (a ++ b) before (put_mid (length a) (length before - length a) before after) (Err no_room)
-  both-full e =
-      let w = was-full b (drop (length a) before) after (rw e at rest_put) in
-      rw (w.1, part-back) (full (a ++ b) before (length a + length b) (length-append a b) (omega (arith, w.0, length-drop (length a) before)))
-
-  module _ (m : ℕ) (e : r ≡ Ok m) where
-    both-parts : (length b ≡ m) × (length b ≤ length (drop (length a) before)) × (after ≡ b ++ drop (length b) (drop (length a) before))
-    both-parts = was-bytes b (drop (length a) before) after m (rw e at rest_put)
-
-    pub both-room : length a + m ≤ length before
-    both-room = omega (arith, both-parts.0, both-parts.1, length-drop (length a) before)
-
-    after-length : length after ≡ length (drop (length a) before)
-    after-length = rw both-parts.2 (omega (arith, length-append b (drop (length b) (drop (length a) before)), length-drop (length b) (drop (length a) before), both-parts.1))
-
-    whole_length : length (put_mid (length a) (length before - length a) before after) ≡ length before
-    whole_length = same_len_mid (length a) (length before - length a) before after (after-length ∙ sym (ap (λ (l : List ℕ). length l) (rest_all (length a) before)))
-
-    behind-first : drop (length a) (put_mid (length a) (length before - length a) before after) ≡ after
-    behind-first =
-        drop_at (take (length a) before) (after ++ drop (length before - length a) (drop (length a) before)) (length a) (length-take-le (length a) before h)
-        ∙ ap (λ (l : List ℕ). after ++ l) (drop_of_length-le (drop (length a) before) {i = length before - length a} (omega (arith, length-drop (length a) before))) ∙ append-nil after
-
-    pub both_bytes : (last : List ℕ) (q : Result ℕ NoRoom) → Puts a (put_mid (length a) (length before - length a) before after) last q → Puts (a ++ b) before last (Ok (length a + m))
-    both_bytes last q f =
-        let long : leb (length a) (length (put_mid (length a) (length before - length a) before after)) ≡ true = rw whole_length (le-leb (length a) (length before) h) in
-        let front : last ≡ a ++ after = f.memory ∙ rw long (ap (λ (l : List ℕ). a ++ l) behind-first) in
-        let seam : b ++ drop (length b) (drop (length a) before) ≡ b ++ drop (length a + m) before = ap (λ (l : List ℕ). b ++ l) (drop-drop (length b) (length a) before ∙ rw both-parts.0) in
-        fits (a ++ b) before (length a + m) (length-append a b ∙ rw both-parts.0) both-room last (front ∙ ap (λ (l : List ℕ). a ++ l) (both-parts.2 ∙ seam) ∙ sym (append_assoc a b (drop (length a + m) before)))
-
--- ── a sheet ──
-trimmed : (d : List ℕ) (z k : ℕ) → k ≡ length d - z → drop z d ≡ trim d → take k (drop z d) ≡ trim d
-trimmed d z k e h = rw e (rest_all z d) ∙ h
-
-module _ (a : ℕ) (x : List ℕ) (e : x ≡ fixed 1 a) where
-  pub name-length : 2 ≡ suc (length (x ++ []))
-  name-length = rw (append-nil x, e) (omega (arith, fixed-length 1 a))
-
-  pub sheet-plain : (n : ℕ) → n ≡ 1 → 65 ∷ (x ++ []) ≡ show_sheet n a
-  sheet-plain n h = rw (append-nil x, e, h)
-
-  pub sheet_large : (n : ℕ) → (n ≡ 1 → ⊥) → (d : List ℕ) (z : ℕ) → d ≡ fixed 2 n → drop z d ≡ trim d → take (2 - z) (drop z d) ++ 65 ∷ (x ++ []) ≡ show_sheet n a
-  sheet_large n h d z g t =
-      let l : 2 - z ≡ length d - z = rw g (omega (arith, fixed-length 2 n)) in
-      rw (trimmed d z (2 - z) l t, append-nil x, e, g, ne_eqb n 1 h)
-
--- ── a scale ──
-module _ (q : ℕ) (y : List ℕ) (e : y ≡ fixed 9 q) where
-  pub tail-length : 10 ≤ length (0 ∷ (y ++ []))
-  tail-length = rw (append-nil y, e) (omega (arith, fixed-length 9 q))
-
-  pub tail-digits : take 9 (y ++ []) ≡ fixed 9 q
-  tail-digits = rw (append-nil y, e) (take_all 9 (fixed 9 q) (omega (arith, fixed-length 9 q)))
-
-  module _ (z : ℕ) (h : z ≤ length (take 9 (y ++ []))) where
-    few : z ≤ 9
-    few = omega (arith, rw tail-digits at h, fixed-length 9 q)
-
-    pub slash-length : 10 ≤ length (set (0 ∷ (y ++ [])) z 47)
-    slash-length = rw (length-set (0 ∷ (y ++ [])) z 47) tail-length
-
-    slash-tail : drop z (take 9 (y ++ [])) ≡ trim (take 9 (y ++ [])) → take (10 - z) (drop z (set (0 ∷ (y ++ [])) z 47)) ≡ 47 ∷ show_count 9 q
-    slash-tail t =
-        let digits : y ++ [] ≡ fixed 9 q = append-nil y ∙ e in
-        let tail : drop z (fixed 9 q) ≡ trim (fixed 9 q) = rw tail-digits at t in
-        let l : length (drop z (set (0 ∷ fixed 9 q) z 47)) ≤ 10 - z = omega (arith, length-drop z (set (0 ∷ fixed 9 q) z 47), length-set (0 ∷ fixed 9 q) z 47, fixed-length 9 q) in
-        rw digits (take_all (10 - z) (drop z (set (0 ∷ fixed 9 q) z 47)) l ∙ laid (0 ∷ fixed 9 q) z 47 (omega (arith, few, fixed-length 9 q)) ∙ ap (λ (s : List ℕ). 47 ∷ s) tail)
-
-    pub ratio-both : (p : ℕ) → (q ≡ 1 → ⊥) → (d : List ℕ) (s : ℕ) → d ≡ fixed 9 p → drop s d ≡ trim d → drop z (take 9 (y ++ [])) ≡ trim (take 9 (y ++ []))
-        → take (9 - s) (drop s d) ++ take (10 - z) (drop z (set (0 ∷ (y ++ [])) z 47)) ≡ show_ratio p q
-    ratio-both p n d s g u t =
-        let l : 9 - s ≡ length d - s = rw g (omega (arith, fixed-length 9 p)) in
-        rw (trimmed d s (9 - s) l u, slash-tail t, g, ne_eqb q 1 n)
-
-pub ratio-alone : (p q : ℕ) → q ≡ 1 → show_count 9 p ≡ show_ratio p q
-ratio-alone p q h = sym (rw h)

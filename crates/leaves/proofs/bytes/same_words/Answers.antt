@@ -1,19 +1,10 @@
 use Prim.Native.Nat.{◌-◌}
-use mathlib.Core.Path.{refl, sym, ◌∙◌}
+use mathlib.Core.Path.{sym, ◌∙◌}
 use native.Mathlib.Omega.{arith}
 use lib.ListN.{length}
 use Rattle.leaves.specs.Bytes.{word}
 use Rattle.leaves.proofs.Words.{Fit, word_same, covered, further, same_no, same_yes}
 use Rattle.leaves.proofs.bytes.same_words.Goals as goal
-
-pub overflow_sub-last : goal.overflow_sub-last
-overflow_sub-last c = omega arith
-
-pub word-requires : goal.word-requires
-word-requires c = omega arith
-
-pub word-requires-2 : goal.word-requires-2
-word-requires-2 c = omega arith
 
 pub returns-then-word : goal.returns-then-word
 returns-then-word c =
@@ -21,27 +12,12 @@ returns-then-word c =
     let b = c.args.b.now in
     same_no a b (λ s. word s (length a - 8)) (λ e. c.if-word.true (c.word.ensures ∙ e ∙ sym c.word-2.ensures))
 
-pub loop-i-init : goal.loop-i-init
-loop-i-init c = refl
-
-pub word-requires-in-loop-i : goal.word-requires-in-loop-i
-word-requires-in-loop-i c = omega arith
-
-pub word-requires-in-loop-i-2 : goal.word-requires-in-loop-i-2
-word-requires-in-loop-i-2 c = omega arith
-
 pub returns-then-word-2 : goal.returns-then-word-2
 returns-then-word-2 c =
     let a = c.args.a.now in
     let b = c.args.b.now in
     let i = c.loop-i.i in
     same_no a b (λ s. word s i) (λ e. c.if-word-2.true (c.word-in-loop-i.ensures ∙ e ∙ sym c.word-in-loop-i-2.ensures))
-
-pub overflow_add-i : goal.overflow_add-i
-overflow_add-i c = omega arith
-
-pub loop-i-smaller : goal.loop-i-smaller
-loop-i-smaller c = omega arith
 
 pub loop-i-preserved : goal.loop-i-preserved
 loop-i-preserved c =

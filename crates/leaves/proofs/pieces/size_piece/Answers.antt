@@ -21,9 +21,6 @@ bounds-s-i c = goes_on c.args.s.now c.run-whole.result.end (sym c.ends.ensures �
 pub returns-then-s-i-ne46 : goal.returns-then-s-i-ne46
 returns-then-s-i-ne46 c = whole-broken _ _ _ _ c.run-whole.ensures (sym c.ends.ensures ∙ c.if-ends.false) c.if-s-i-ne46.true
 
-pub run-fraction-requires : goal.run-fraction-requires
-run-fraction-requires c = (omega (arith, goes_on c.args.s.now c.run-whole.result.end (sym c.ends.ensures ∙ c.if-ends.false)), omega arith)
-
 pub returns-then-j-k : goal.returns-then-j-k
 returns-then-j-k c = no-digit-behind _ _ _ _ c.run-whole.ensures (sym c.ends.ensures ∙ c.if-ends.false) c.if-s-i-ne46.false _ _ c.run-fraction.ensures c.if-j-k.true
 
