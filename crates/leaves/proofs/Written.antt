@@ -97,9 +97,6 @@ module _ (n : ℕ) (a : List ℕ) (ea : a ≡ fixed 7 n) where
   seven : length a ≡ 7
   seven = rw ea (fixed-length 7 n)
 
-  pub half-long : 13 ≤ length (48 ∷ (a ++ blank))
-  half-long = omega (arith, seven, length-append a blank)
-
 pub lay_done : (m : ℕ) (a b : List ℕ) → a ≡ fixed 7 (m / 10000) → b ≡ fixed (length (take 4 (drop 8 (a ++ blank)))) (m % 10000)
     → 48 ∷ (take 8 (a ++ blank) ++ (b ++ drop 4 (drop 8 (a ++ blank)))) ≡ laid_size m
 unfolding laid_size

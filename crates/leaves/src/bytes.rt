@@ -55,12 +55,10 @@ fn same_words(a: &[u8], b: &[u8]) -> bool
     if word(a, last) != word(b, last) {
         return false;
     }
-    let mut i = 0;
-    while i < last {
+    for i in (0..last).step_by(8) {
         if word(a, i) != word(b, i) {
             return false;
         }
-        i += 8;
     }
     true
 }
@@ -72,13 +70,11 @@ pub fn same(a: &[u8], b: &[u8]) -> bool
     if a.len() != b.len() {
         return false;
     }
-    if a.len() < 4 {
-        return same_bytes(a, b);
+    match a.len() {
+        0..=3 => same_bytes(a, b),
+        4..=7 => same_halves(a, b),
+        _ => same_words(a, b),
     }
-    if a.len() < 8 {
-        return same_halves(a, b);
-    }
-    same_words(a, b)
 }
 
 // A part of the spool is this byte string of the code: how every key is recognised. No byte of it is looked at twice, as the code then

@@ -14,9 +14,9 @@ use rules::SHEET_MULTIPLIERS;
 fn is_number(s: &[u8], n: u8) -> bool
     ensures { result ≡ same s.now (show_count 2 n) }
 {
-    let tens = 48 + n / 10 % 10;
-    let last = 48 + n % 10;
-    if tens == 48 {
+    let tens = b'0' + n / 10 % 10;
+    let last = b'0' + n % 10;
+    if tens == b'0' {
         return s == [last].as_slice();
     }
     s == [tens, last].as_slice()
@@ -60,7 +60,7 @@ pub fn sheet(s: &[u8]) -> Option<SheetSize>
     numbered(multiplier(&s[..e])?, b'1', d)
 }
 
-// p alone
+// p alone. The refusals are numbers, as `ratio` answers them to those who call it.
 #[tactic(auto, unfolding(crate::specs::Drawing::one_count))]
 fn one_count(a: Option<u64>) -> Result<Scale, u8>
     ensures { result ≡ one_count a }

@@ -9,7 +9,7 @@ use crate::TextRule;
 use crate::bytes::all_in;
 use rules::TEXT_LIMITS;
 
-// The free-text keys in the order of TEXT_LIMITS: the number of each one's set of bytes.
+// The free-text keys in the order of TEXT_LIMITS, which is the rules' own table: the number of each one's set of bytes.
 const TEXT_SETS: [u8; 13] = [1, 1, 1, 1, 0, 0, 3, 0, 0, 0, 0, 0, 0];
 
 // The rule of a free-text key, by its number in the order of TEXT_LIMITS. There is none from 13 on.
@@ -19,12 +19,10 @@ pub fn text_rule(key: u8) -> TextRule
     if 12 < key {
         return TextRule { most: 0, set: 0 };
     }
-    let limits = TEXT_LIMITS;
-    let sets = TEXT_SETS;
     let k = key as usize;
     TextRule {
-        most: limits[k],
-        set: sets[k],
+        most: TEXT_LIMITS[k],
+        set: TEXT_SETS[k],
     }
 }
 
