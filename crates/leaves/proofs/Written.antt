@@ -5,7 +5,7 @@ use mathlib.Core.Path.{◌≡◌, refl, ap, sym, subst, ◌∙◌}
 use mathlib.Core.List.{List, [], ◌∷◌, ◌++◌, append-nil}
 use mathlib.Core.Bool.{Bool, true, false, cond, not}
 use native.Mathlib.Omega.{arith}
-use lib.ListN.{length, get_or, take, drop, set, length-set, length-drop, length-append}
+use lib.ListN.{length, get_or, take, drop, set, length-set, length-drop}
 use lib.Seq.{take-suc, take-append-add, drop-append-add, drop-append-le, take_at, take_all, drop-length, append_snoc, drop-cons, drop-set-lt, get_or-set_same}
 use borrow.Author.Tests.{le-leb, lt-leb, eq-eqb, ne_eqb, leb-true, leb-false}
 use lib.Dec.{eqb, leb}

@@ -1,4 +1,4 @@
-use Prim.Native.Nat.{◌+◌, ◌-◌}
+use Prim.Native.Nat.{◌-◌}
 use mathlib.Core.Path.{sym, ◌∙◌}
 use native.Mathlib.Omega.{arith}
 use lib.ListN.{length}
@@ -28,8 +28,8 @@ loop-i-preserved c =
     let loop = c.loop-i in
     further a b loop.i 8 loop.invariant (word_same a b f g c.requires.a_len loop.i (omega arith) (sym c.word-in-loop-i.ensures ∙ c.if-word-2.false ∙ c.word-in-loop-i-2.ensures))
 
-pub returns-else-word : goal.returns-else-word
-returns-else-word c =
+pub returns : goal.returns
+returns c =
     let a = c.args.a.now in
     let b = c.args.b.now in
     let f : Fit a = λ k. (c.type_inv.a k).fits in
@@ -37,15 +37,3 @@ returns-else-word c =
     let last = length a - 8 in
     let ends = word_same a b f g c.requires.a_len last (omega arith) (sym c.word.ensures ∙ c.if-word.false ∙ c.word-2.ensures) in
     same_yes a b (covered a b c.loop-i.i 8 last c.requires.a_len c.loop-i-test.false (omega arith) c.loop-i.invariant ends)
-
-pub returns-else-word-2 : goal.returns-else-word-2
-returns-else-word-2 c =
-    let a = c.args.a.now in
-    let b = c.args.b.now in
-    let f : Fit a = λ k. (c.type_inv.a k).fits in
-    let g : Fit b = λ k. (c.type_inv.b k).fits in
-    let last = length a - 8 in
-    let i = c.loop-i.i in
-    let ends = word_same a b f g c.requires.a_len last (omega arith) (sym c.word.ensures ∙ c.if-word.false ∙ c.word-2.ensures) in
-    let front = further a b i 8 c.loop-i.invariant (word_same a b f g c.requires.a_len i (omega arith) (sym c.word-in-loop-i.ensures ∙ c.if-word-2.false ∙ c.word-in-loop-i-2.ensures)) in
-    same_yes a b (covered a b (i + 8) 8 last c.requires.a_len (omega arith) (omega arith) front ends)
