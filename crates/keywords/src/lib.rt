@@ -24,7 +24,8 @@ use tables::{
     TABLE_SYMBOL, TABLE_SYMBOL_POINTS, TABLE_SYMBOL_TEXT, TABLE_TOP, TABLE_WIRE, TABLE_WIRED_LAYER,
 };
 
-// A table's keys in the order of its rows; a table that is none has no rows.
+// A table's keys in the order of its rows; a table that is none has no rows. (They are not taken from the rows of tables: the edits
+// `element_and_hide_exchanged`, `defines_as_drawing` and `wire_as_cirno` write a wrong key here where the right one is read.)
 #[tactic(auto, unfolding(tables::specs::Tables::table_of, rules::specs::Blocks::top_table, rules::specs::Blocks::file_table, rules::specs::Blocks::range_table, rules::specs::Blocks::base_table, rules::specs::Blocks::elec_table, rules::specs::Blocks::sym_table, rules::specs::Blocks::later_table, rules::specs::Blocks::drawing_table, rules::specs::Blocks::defines_table, rules::specs::Blocks::symbol_table, rules::specs::Blocks::element_table, rules::specs::Figures::layer_table, rules::specs::Figures::figure_table, rules::specs::Figures::point_table, rules::specs::Figures::text_table, rules::specs::Figures::placed_table, rules::specs::Figures::wire_table))]
 fn keys_of(table: u8) -> &'static [&'static [u8]]
     ensures { texts result.now ≡ keys (table_of table) }

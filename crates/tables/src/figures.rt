@@ -50,7 +50,7 @@ const ANY_TEXT: Entry = row!(5, TEXT, kind: HOLDS_BLOCK, inner: 2, times: TIMES_
 
 const LAYER_WIRE: Entry = row!(7, E_WIRE, kind: HOLDS_BLOCK, inner: 4, times: TIMES_ANY);
 
-// The figures of a layer, and a placed symbol's block and a wire among them.
+// The figures of a layer, and a placed symbol's block and a wire among them. (Where no wire may stand, the last row is left out: lookup.)
 pub(crate) static LAYER_ROWS: [Entry; 8] = [
     LAYER_LINE,
     LAYER_CIRCLE,
