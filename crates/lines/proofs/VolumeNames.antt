@@ -7,8 +7,8 @@ use mathlib.Core.Bool.{Bool, true, false, cond, ◌&&◌, not}
 use mathlib.Core.List.{List, [], ◌∷◌, ◌++◌, map}
 use native.Mathlib.Omega.{arith}
 use lib.Dec.{eqb, leb}
-use lib.ListN.{length, get_or, take, drop, replicate, drop_of_length-le, length-take}
-use lib.Seq.{take-take}
+use lib.ListN.{length, get_or, take, drop, replicate, drop_of_length-le}
+use lib.Seq.{length-take-le}
 use borrow.Author.Tests.{eq-eqb, le-leb, lt-leb, eqb-true}
 use Rattle.leaves.specs.Bytes.{up_to}
 use Rattle.leaves.proofs.Cuts.{up_to-le, up_to-take}
@@ -144,17 +144,14 @@ module _ (s : List ℕ) (p : ℕ) where
     eight : p - 10 + 8 - (p - 10) ≡ 8
     eight = omega arith
 
-    pub name-short : k ≤ 8
-    name-short =
-        let r = take 8 (drop (p - 10) s) in
-        let e = ap (λ n. length (up_to 32 (take n (drop (p - 10) s)))) eight in
-        omega (arith, z, e, up_to-le 32 r, length-take 8 (drop (p - 10) s))
+    pub name-short : k ≤ length (take (p - 10 + 8 - (p - 10)) (drop (p - 10) s))
+    name-short = omega (arith, z, up_to-le 32 (take (p - 10 + 8 - (p - 10)) (drop (p - 10) s)))
 
-    pub name-part : 12 ≤ p → p ≤ length s → take (p - 10 + k - (p - 10)) (drop (p - 10) s) ≡ name_at s p
+    pub name-whole : k ≡ length (take k (take (p - 10 + 8 - (p - 10)) (drop (p - 10) s)))
+    name-whole = sym (length-take-le k _ name-short)
+
+    pub name-part : 12 ≤ p → p ≤ length s → take k (take (p - 10 + 8 - (p - 10)) (drop (p - 10) s)) ≡ name_at s p
     unfolding raw_name
     name-part h j =
-        let r = take 8 (drop (p - 10) s) in
-        let w : p - 10 + k - (p - 10) ≡ length (up_to 32 r) = omega (arith, z, ap (λ n. length (up_to 32 (take n (drop (p - 10) s)))) eight) in
-        let m = name-short in
-        let n : length (up_to 32 r) ≤ 8 = omega (arith, w) in
-        ap (λ i. take i (drop (p - 10) s)) w ∙ sym (take-take (length (up_to 32 r)) 8 (drop (p - 10) s) n) ∙ up_to-take 32 r ∙ sym (name-up r) ∙ sym (name-here h j)
+        let r = take (p - 10 + 8 - (p - 10)) (drop (p - 10) s) in
+        ap (λ i. take i r) z ∙ up_to-take 32 r ∙ sym (name-up r) ∙ ap (λ i. name_of (take i (drop (p - 10) s))) eight ∙ sym (name-here h j)

@@ -1,5 +1,7 @@
 -- Laws of the walk over a spool's volumes: the head, one volume more, and what the places hold of the volumes.
 use Rattle.std.specs.Prelude.{Option, Some, None}
+use Rattle.std.specs.List.{starts_with}
+use Rattle.lines.proofs.LineForms.{eqb-flip}
 use Prim.Native.Nat.{ℕ, zero, suc, ◌+◌, ◌*◌, ◌-◌, ◌<◌, ◌≤◌}
 use mathlib.Core.Path.{◌≡◌, refl, ap, sym, subst, ◌∙◌}
 use mathlib.Core.Bool.{Bool, true, false, cond, ◌&&◌, not}
@@ -28,10 +30,10 @@ pub head-short : (s : List ℕ) → length s < 12 → head_in s ≡ None
 unfolding head_in
 head-short s h = rw (ne_eqb (length (take 12 s)) 12 (omega (arith, length-take 12 s)))
 
-same-mark : (s : List ℕ) → 12 ≤ length s → same (take 2 (take 12 s)) (86 ∷ 80 ∷ []) ≡ (eqb (get_or s 0 0) 86 && (eqb (get_or s 1 0) 80 && true))
+same-mark : (s : List ℕ) → 12 ≤ length s → same (take 2 (take 12 s)) (86 ∷ 80 ∷ []) ≡ starts_with eqb s (86 ∷ 80 ∷ [])
 same-mark [] h = absurd (omega arith)
 same-mark (a ∷ []) h = absurd (omega arith)
-same-mark (a ∷ b ∷ s) h = refl
+same-mark (a ∷ b ∷ s) h = rw (eqb-flip a 86, eqb-flip b 80)
 
 name-part : (s : List ℕ) → 12 ≤ length s → take 8 (drop 2 (take 12 s)) ≡ take 8 (drop 2 s)
 name-part [] h = refl
@@ -45,7 +47,7 @@ size_is s =
     ap (λ k. k * 256 + get_or (take 12 s) 11 0) p ∙ ap (λ k. get_or s 10 0 * 256 + k) q
 
 pub head-is : (s : List ℕ) → 12 ≤ length s
-    → head_in s ≡ head_by true (eqb (get_or s 0 0) 86 && (eqb (get_or s 1 0) 80 && true)) (good_name (take 8 (drop 2 s))) (leb (size_in s) (length s - 12)) (size_in s)
+    → head_in s ≡ head_by true (starts_with eqb s (86 ∷ 80 ∷ [])) (good_name (take 8 (drop 2 s))) (leb (size_in s) (length s - 12)) (size_in s)
 unfolding head_in
 head-is s h =
     go (eq-eqb (length (take 12 s)) 12 (length-take-le 12 s h)) (same-mark s h) (ap good_name (name-part s h)) (ap (λ k. leb k (length (drop 12 s))) (size_is s) ∙ ap (leb (size_in s)) (length-drop 12 s)) (size_is s)

@@ -14,16 +14,7 @@ const HEAD_BYTES: usize = 12;
 pub fn head_of(s: &[u8]) -> Option<u32>
     ensures { result ≡ head_in s.now }
 {
-    if s.len() < HEAD_BYTES {
-        return None;
-    }
-    if s[0] != b'V' {
-        return None;
-    }
-    if s[1] != b'P' {
-        return None;
-    }
-    if !good_name(&s[2..10]) {
+    if s.len() < HEAD_BYTES || !s.starts_with(b"VP") || !good_name(&s[2..10]) {
         return None;
     }
     let n = s[10] as u32 * 256 + s[11] as u32;
@@ -67,8 +58,8 @@ fn walk(s: &[u8]) -> Layout
     }
     Layout {
         count: count as u32,
-        places: places,
-        lengths: lengths,
+        places,
+        lengths,
     }
 }
 
@@ -76,16 +67,11 @@ fn walk(s: &[u8]) -> Layout
 pub fn volumes(s: &[u8]) -> Layout
     ensures { result ≡ layout_of (volumes_of s.now) }
 {
-    if s.len() == 0 {
-        return no_layout();
-    }
-    if MOST_BYTES < s.len() {
+    if s.is_empty() || MOST_BYTES < s.len() {
         return no_layout();
     }
     let l = walk(s);
-    let count = l.count as usize;
-    let places = l.places;
-    if names_differ(s, &places[..count]) {
+    if names_differ(s, &l.places[..l.count as usize]) {
         return l;
     }
     no_layout()
@@ -96,14 +82,10 @@ pub fn volume_name(s: &[u8], place: u32) -> &[u8]
     ensures { result.now ≡ name_at s.now place }
 {
     let at = place as usize;
-    if at < HEAD_BYTES {
-        return &s[..0];
-    }
-    if s.len() < at {
+    if at < HEAD_BYTES || s.len() < at {
         return &s[..0];
     }
     let from = at - 10;
-    let to = from + 8;
-    let end = from + find(&s[from..to], SPACE);
-    &s[from..end]
+    let name = &s[from..from + 8];
+    &name[..find(name, SPACE)]
 }

@@ -1,17 +1,21 @@
-use mathlib.Core.Path.{sym, ◌∙◌}
+use mathlib.Core.Path.{◌≡◌, sym, ◌∙◌}
+use lib.ListN.{length}
+use borrow.Author.Rules.{rules}
 use native.Mathlib.Omega.{arith}
 use Rattle.lines.proofs.VolumePlaces as laws
 use lib.Seq.{length-take-le}
 use Rattle.lines.proofs.spool.volumes.Goals as goal
+use Rattle.lines.proofs.spool.volumes.Goals.{then-is_empty-via-then-is_empty, then-is_empty-via-else-is_empty+then-s-gt-MOST_BYTES}
 
-pub returns-then-s-eq0 : goal.returns-then-s-eq0
-returns-then-s-eq0 c = c.no_layout.ensures ∙ sym (laws.volumes-empty c.args.s.now c.if-s-eq0.true)
+pub returns-then-is_empty : goal.returns-then-is_empty
+returns-then-is_empty c =
+    elim c.then-is_empty.branch [
+      | then-is_empty-via-then-is_empty w ↦ c.no_layout.ensures ∙ sym (laws.volumes-empty c.args.s.now (search rules))
+      | then-is_empty-via-else-is_empty+then-s-gt-MOST_BYTES w ↦ c.no_layout.ensures ∙ sym (laws.volumes-long c.args.s.now w.if-s-gt-MOST_BYTES.true)
+    ]
 
-pub returns-then-s-gt-MOST_BYTES : goal.returns-then-s-gt-MOST_BYTES
-returns-then-s-gt-MOST_BYTES c = c.no_layout-then-s-gt-MOST_BYTES.ensures ∙ sym (laws.volumes-long c.args.s.now c.if-s-gt-MOST_BYTES.true)
-
-pub slice_bounds-places-end : goal.slice_bounds-places-end
-slice_bounds-places-end c = let t = laws.layout-told c.args.s.now c.walk-l.result c.walk-l.ensures in omega (arith, t.0, t.1)
+pub shared_ref_as_front-names_differ : goal.shared_ref_as_front-names_differ
+shared_ref_as_front-names_differ c = let t = laws.layout-told c.args.s.now c.walk-l.result c.walk-l.ensures in omega (arith, t.0, t.1)
 
 pub slice_bounds-names_differ-end : goal.slice_bounds-names_differ-end
 slice_bounds-names_differ-end c = let t = laws.layout-told c.args.s.now c.walk-l.result c.walk-l.ensures in sym (length-take-le c.walk-l.result.count c.walk-l.result.places (omega (arith, t.0, t.1)))
@@ -20,7 +24,7 @@ pub names_differ-requires : goal.names_differ-requires
 names_differ-requires c = (laws.layout-told c.args.s.now c.walk-l.result c.walk-l.ensures).2
 
 pub returns-then-names_differ : goal.returns-then-names_differ
-returns-then-names_differ c = sym (laws.volumes-differ c.args.s.now c.walk-l.result c.walk-l.ensures (omega (arith, c.if-s-eq0.false)) c.if-s-gt-MOST_BYTES.false (sym c.names_differ.ensures ∙ c.if-names_differ.true))
+returns-then-names_differ c = sym (laws.volumes-differ c.args.s.now c.walk-l.result c.walk-l.ensures (let n : length c.args.s.now ≡ 0 → ⊥ = search rules in omega (arith, n)) c.if-s-gt-MOST_BYTES.false (sym c.names_differ.ensures ∙ c.if-names_differ.true))
 
 pub returns : goal.returns
-returns c = c.no_layout-2.ensures ∙ sym (laws.volumes-again c.args.s.now c.walk-l.result c.walk-l.ensures (omega (arith, c.if-s-eq0.false)) c.if-s-gt-MOST_BYTES.false (sym c.names_differ.ensures ∙ c.if-names_differ.false))
+returns c = c.no_layout-2.ensures ∙ sym (laws.volumes-again c.args.s.now c.walk-l.result c.walk-l.ensures (let n : length c.args.s.now ≡ 0 → ⊥ = search rules in omega (arith, n)) c.if-s-gt-MOST_BYTES.false (sym c.names_differ.ensures ∙ c.if-names_differ.false))
