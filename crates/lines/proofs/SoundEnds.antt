@@ -8,13 +8,13 @@ use native.Mathlib.Omega.{arith}
 use lib.Dec.{eqb, leb, ltb}
 use lib.ListN.{length, get_or, take, drop, drop_of_length-le, length-drop}
 use lib.Seq.{drop-drop, get_or-drop, take_all, take-nil}
-use borrow.Author.Tests.{eq-eqb, ne_eqb, le-leb, lt-leb, lt-ltb, le-ltb, eqb-true, eqb-false, leb-true, leb-false, ltb-true}
+use borrow.Author.Tests.{eq-eqb, ne_eqb, le-leb, lt-leb, lt-ltb, le-ltb, eqb-true, eqb-false, leb-true, leb-false, ltb-true, ltb-false}
 use Rattle.rules.proofs.Chains.{and_left, and_right, and_false, clash}
 use Rattle.rules.specs.Base.{choose, all, is_nil, is_some, map_o}
 use Rattle.rules.specs.Spool.{most_in_line, most_volumes, head_line, lines_from, short_lines, lines_of}
 use Rattle.leaves.specs.Bytes.{up_to}
 use Rattle.leaves.proofs.Scan.{at}
-use Rattle.lines.specs.LineEnds.{end_byte, plain_run, high_byte, NoEnd, last_byte, unsound_from, first_unsound}
+use Rattle.lines.specs.LineEnds.{end_byte, plain_run, high_byte, NoEnd, lf_at, last_byte, unsound_from, first_unsound}
 use Rattle.lines.specs.declared.Layout.{Layout}
 
 pub or-neither : (a b : Bool) → (a || b) ≡ false → (a ≡ false) × (b ≡ false)
@@ -175,6 +175,9 @@ last_of i e b w h q c = rw c (go (eqb b 26) refl)
     go true p = one w
     go false p = let z : eqb b 10 ≡ true = sym (ap (λ x. eqb b 10) c) ∙ rw (c, p) at q in rw z
 
+pub lf-inside : (s : List ℕ) (i : ℕ) → lf_at i s ≡ true → i < length s
+lf-inside s i q = ltb-true i (length s) (and_left (ltb i (length s)) (eqb (get_or s i 0) 10) q)
+
 -- the line that starts at i, its first of the three bytes at e
 module _ (s : List ℕ) (i e : ℕ) (z : e ≡ i + plain_run (drop i s)) where
   behind : is_some (lines_of (drop i s)) ≡ sound_after (e - i) (lines_from false (drop e s))
@@ -194,15 +197,26 @@ module _ (s : List ℕ) (i e : ℕ) (z : e ≡ i + plain_run (drop i s)) where
       behind ∙ rw (at s e h) (last_of i e (get_or s e 0) (drop (e + 1) s) (omega (arith, z)) hit (ne_eqb _ _ c))
 
   module _ (h : e < length s) (c : get_or s e 0 ≡ 13) where
-    pub sound-cut : length s ≤ e + 1 → is_some (lines_of (drop i s)) ≡ false
+    sound-cut : length s ≤ e + 1 → is_some (lines_of (drop i s)) ≡ false
     sound-cut k = behind ∙ rw (at s e h, eq-eqb _ _ c, drop_of_length-le s k)
 
     module _ (k : e + 1 < length s) where
-      pub sound_no-lf : (get_or s (e + 1) 0 ≡ 10 → ⊥) → is_some (lines_of (drop i s)) ≡ false
+      sound_no-lf : (get_or s (e + 1) 0 ≡ 10 → ⊥) → is_some (lines_of (drop i s)) ≡ false
       sound_no-lf d = behind ∙ rw (at s e h, eq-eqb _ _ c, at s (e + 1) k, ne_eqb _ _ d)
 
-      pub sound-next : get_or s (e + 1) 0 ≡ 10 → e - i ≤ most_in_line → is_some (lines_of (drop i s)) ≡ is_some (lines_of (drop (e + 1 + 1) s))
+      sound-next : get_or s (e + 1) 0 ≡ 10 → e - i ≤ most_in_line → is_some (lines_of (drop i s)) ≡ is_some (lines_of (drop (e + 1 + 1) s))
       sound-next d m = behind ∙ rw (at s e h, eq-eqb _ _ c, at s (e + 1) k, eq-eqb _ _ d) (sym (sound-anew (e - i) (lines_from false (drop (e + 1 + 1) s)) m)) ∙ sym (sound-is (drop (e + 1 + 1) s))
+
+    -- what stands behind the CR, as the code tests it
+    pub sound-unended : lf_at (e + 1) s ≡ false → is_some (lines_of (drop i s)) ≡ false
+    sound-unended q = go (ltb (e + 1) (length s)) refl q
+      where
+        go : (t : Bool) → ltb (e + 1) (length s) ≡ t → (t && eqb (get_or s (e + 1) 0) 10) ≡ false → is_some (lines_of (drop i s)) ≡ false
+        go true k f = sound_no-lf (ltb-true _ _ k) (eqb-false _ _ f)
+        go false k f = sound-cut (ltb-false _ _ k)
+
+    pub sound-ended : lf_at (e + 1) s ≡ true → e - i ≤ most_in_line → is_some (lines_of (drop i s)) ≡ is_some (lines_of (drop (e + 1 + 1) s))
+    sound-ended q m = sound-next (lf-inside s (e + 1) q) (eqb-true _ _ (and_right (ltb (e + 1) (length s)) _ q)) m
 
     pub sound-wide : most_in_line < e - i → is_some (lines_of (drop i s)) ≡ false
     sound-wide m = behind ∙ rw (at s e h, eq-eqb _ _ c) (go (drop (e + 1) s))

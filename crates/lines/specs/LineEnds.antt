@@ -27,6 +27,10 @@ pub record NoEnd (s : List ℕ) (i j : ℕ) : Type 0 where
 abbrev pub Stands : Option ℕ → ℕ → ℕ → Type 0
 Stands o i n = MatchOption o (n ≤ i) (λ e. (e ≡ i) × (e < n))
 
+-- an LF stands at a place
+abbrev pub lf_at : ℕ → List ℕ → Bool
+lf_at i s = ltb i (length s) && eqb (get_or s i 0) 10
+
 -- one byte 1A and no more, at a place where a line starts
 unfoldable pub last_byte : ℕ → ℕ → List ℕ → Bool
 last_byte from at [] = false

@@ -3,7 +3,7 @@ ghost use Rattle.std.specs.Prelude.{◌≡◌, ◌+◌, ◌<◌, ◌≤◌, ◌&
 ghost use Rattle.rules.specs.Base.{is_some};
 ghost use Rattle.rules.specs.Spool.{lines_of};
 ghost use Rattle.leaves.specs.Bytes.{up_to};
-ghost use Rattle.lines.specs.LineEnds.{end_byte, plain_run, high_byte, NoEnd, Stands, first_unsound};
+ghost use Rattle.lines.specs.LineEnds.{end_byte, plain_run, high_byte, NoEnd, Stands, lf_at, first_unsound};
 
 use crate::{CR, Layout, MOST_VOLUMES};
 
@@ -73,6 +73,12 @@ fn last_at(s: &[u8], from: usize, e: usize) -> bool
     s[e] == END && e == from && e + 1 == s.len()
 }
 
+fn lf_at(s: &[u8], i: usize) -> bool
+    ensures { result ≡ lf_at i s.now }
+{
+    i < s.len() && s[i] == LF
+}
+
 // Whether a volume's bytes are lines of at most 512 bytes, each ended by CR LF, and then one byte 1A.
 pub fn sound_lines(s: &[u8]) -> bool
     ensures { result ≡ is_some (lines_of s.now) }
@@ -83,7 +89,7 @@ pub fn sound_lines(s: &[u8]) -> bool
             return last_at(s, i, e);
         }
         let next = e + 1;
-        if MOST_IN_LINE < e - i || s.len() <= next || s[next] != LF {
+        if MOST_IN_LINE < e - i || !lf_at(s, next) {
             return false;
         }
         i = next + 1;

@@ -1,9 +1,12 @@
-use mathlib.Core.Path.{sym, ◌∙◌}
+use mathlib.Core.Path.{◌≡◌, sym, ◌∙◌}
+use mathlib.Core.Bool.{true, false}
+use borrow.Author.Rules.{rules}
+use Prim.Native.Nat.{◌+◌}
 use native.Mathlib.Omega.{arith}
 use mathlib.Core.Path.{refl}
 use Rattle.lines.proofs.SoundEnds as laws
 use Rattle.lines.proofs.ends.sound_lines.Goals as goal
-use Rattle.lines.proofs.ends.sound_lines.Goals.{then-e-i-gt-MOST_IN_LINE-via-then-e-i-gt-MOST_IN_LINE, then-e-i-gt-MOST_IN_LINE-via-else-e-i-gt-MOST_IN_LINE+then-s-next, then-e-i-gt-MOST_IN_LINE-via-else-e-i-gt-MOST_IN_LINE+else-s-next+then-s-next-ne-LF}
+use Rattle.lines.proofs.ends.sound_lines.Goals.{then-e-i-gt-MOST_IN_LINE-via-then-e-i-gt-MOST_IN_LINE, then-e-i-gt-MOST_IN_LINE-via-else-e-i-gt-MOST_IN_LINE+then-not-lf_at}
 
 pub loop-e-init : goal.loop-e-init
 loop-e-init c = (omega arith, refl)
@@ -19,9 +22,13 @@ returns-then-e-i-gt-MOST_IN_LINE c =
     let cr = c.if-s-e-ne-CR.false in
     sym (c.loop-e.invariant.1 ∙ elim c.then-e-i-gt-MOST_IN_LINE.branch [
       | then-e-i-gt-MOST_IN_LINE-via-then-e-i-gt-MOST_IN_LINE w ↦ laws.sound-wide c.args.s.now c.loop-e.i c.in-Some.e e.0 e.1 cr w.if-e-i-gt-MOST_IN_LINE.true
-      | then-e-i-gt-MOST_IN_LINE-via-else-e-i-gt-MOST_IN_LINE+then-s-next w ↦ laws.sound-cut c.args.s.now c.loop-e.i c.in-Some.e e.0 e.1 cr w.if-s-next.true
-      | then-e-i-gt-MOST_IN_LINE-via-else-e-i-gt-MOST_IN_LINE+else-s-next+then-s-next-ne-LF w ↦ laws.sound_no-lf c.args.s.now c.loop-e.i c.in-Some.e e.0 e.1 cr w.if-s-next.false w.if-s-next-ne-LF.true
+      | then-e-i-gt-MOST_IN_LINE-via-else-e-i-gt-MOST_IN_LINE+then-not-lf_at w ↦
+          let f : w.lf_at.result ≡ false = search rules in
+          laws.sound-unended c.args.s.now c.loop-e.i c.in-Some.e e.0 e.1 cr (sym w.lf_at.ensures ∙ f)
     ])
+
+pub overflow_add-i : goal.overflow_add-i
+overflow_add-i c = let l : c.lf_at.result ≡ true = search rules in omega (arith, laws.lf-inside c.args.s.now (c.in-Some.e + 1) (sym c.lf_at.ensures ∙ l))
 
 pub loop-e-smaller : goal.loop-e-smaller
 loop-e-smaller c = let e = c.in-Some.ensures in omega (arith, e.0)
@@ -29,7 +36,9 @@ loop-e-smaller c = let e = c.in-Some.ensures in omega (arith, e.0)
 pub loop-e-preserved : goal.loop-e-preserved
 loop-e-preserved c =
     let e = c.in-Some.ensures in
-    (omega arith, c.loop-e.invariant.1 ∙ laws.sound-next c.args.s.now c.loop-e.i c.in-Some.e e.0 e.1 c.if-s-e-ne-CR.false c.if-s-next.false c.if-s-next-ne-LF.false c.if-e-i-gt-MOST_IN_LINE.false)
+    let l : c.lf_at.result ≡ true = search rules in
+    let f = sym c.lf_at.ensures ∙ l in
+    (omega (arith, laws.lf-inside c.args.s.now (c.in-Some.e + 1) f), c.loop-e.invariant.1 ∙ laws.sound-ended c.args.s.now c.loop-e.i c.in-Some.e e.0 e.1 c.if-s-e-ne-CR.false f c.if-e-i-gt-MOST_IN_LINE.false)
 
 pub returns : goal.returns
 returns c = sym (c.loop-e.invariant.1 ∙ laws.sound-over c.args.s.now c.loop-e.i c.in_default.ensures)
