@@ -5,7 +5,8 @@ ghost use Rattle.rules.specs.Numbers.{is_digit};
 ghost use Rattle.rules.specs.Values.{capital, letters_and_digits, telephone, circuit_bytes, is_letter, byte_in, is_layer_id};
 ghost use Rattle.leaves.specs.Bytes.{half, word, up_to, bytes_of, may_stand, starts_pair, is_layer_letter};
 
-// Four bytes at once, as one number: two such numbers are equal only if all four bytes are. `from_le_bytes` would want them as an array, byte by byte too.
+// Four bytes at once, as one number: two such numbers are equal only if all four bytes are. `from_le_bytes` would want them as an array,
+// byte by byte too.
 fn half(s: &[u8], i: usize) -> u64
     requires { i + 4 ≤ length s.now }
     ensures { result ≡ half s.now i }
@@ -195,7 +196,8 @@ fn of_circuit(b: u8) -> bool
     letter(b) || digit(b) || b == b'-' || b == b'.'
 }
 
-// Every byte is of the set with this number, as the rows of the tables have it (`TextRule.set`): 1 ASCII, 2 letters and digits, 3 telephone, 4 circuit; any other number: every byte.
+// Every byte is of the set with this number, as the rows of the tables have it (`TextRule.set`): 1 ASCII, 2 letters and digits,
+// 3 telephone, 4 circuit; any other number: every byte.
 pub fn all_in(s: &[u8], set: u8) -> bool
     ensures { result ≡ all (byte_in (bytes_of set)) s.now }
 {
