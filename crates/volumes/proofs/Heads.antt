@@ -6,24 +6,23 @@ use mathlib.Core.List.{List, [], ◌∷◌, ◌++◌, append_assoc}
 use mathlib.Core.Path.{◌≡◌, refl, sym, ◌∙◌, ap}
 use native.Mathlib.Omega.{arith}
 use borrow.Author.Tests.{leb-true, leb-false}
-use borrow.Rule.Slice.PartMut.{mid_of, put_mid}
+use borrow.Rule.Slice.PartMut.{put_mid}
 use lib.Dec.{leb}
-use lib.ListN.{length, take, drop, replicate, length-append, length-drop, length-take}
-use lib.Seq.{drop-drop, drop_at, take_at}
+use lib.ListN.{length, take, drop, set, replicate, length-append, length-drop, length-take}
+use Rattle.std.proofs.lemmas.List.{set-append_right}
+use lib.Seq.{drop-drop, drop_at}
 use Rattle.rules.specs.Spool.{padded_name, name_of, unlines, volume_bytes}
 use Rattle.rules.specs.Values.{Known}
 use Rattle.rules.specs.Machine.{State}
 use Rattle.rules.proofs.Chains.{by_cond}
-use Rattle.leaves.specs.Writing.{Puts}
 use Rattle.leaves.proofs.Cuts.{up_to-le}
 use Rattle.lines.specs.VolumeNames.{raw_name, name_at}
 use Rattle.lines.proofs.VolumeNames.{name-up}
 use Rattle.prints.specs.Printing.{Within}
-use Rattle.pens.specs.Texts.{laid}
 use Rattle.pens.specs.Shown.{shown}
 use Rattle.volumes.specs.Volumes.{Fronts, BodyOut, BodyPromise, head_bytes, VolumeOut, VolumePromise}
 use Rattle.pens.proofs.Behind.{full-not}
-use Rattle.volumes.proofs.LentOutput.{puts-prints, puts-within, lent, back, lent-long, back_is, within-long, put-long, put-laid}
+use Rattle.volumes.proofs.LentOutput.{lent, back, lent-long, back_is, within-long}
 use Rattle.volumes.proofs.VolumeEnd.{fronts-fit, fronts-none}
 use Rattle.leaves.specs.declared.NoRoom.{NoRoom}
 use Rattle.leaves.specs.NoRoom.{no_room}
@@ -74,37 +73,32 @@ module _ (name : List ℕ) (h : length name ≤ 8) (size : ℕ) (out : List ℕ)
   abbrev pub high-low : List ℕ
   high-low = size / 256 % 256 ∷ size % 256 ∷ []
 
-  named : laid name 2 (blank_head ++ t) ≡ (86 ∷ 80 ∷ padded_name name) ++ t
+  named : put_mid 2 (length name) (blank_head ++ t) name ≡ (86 ∷ 80 ∷ padded_name name) ++ t
   named =
-      ap (λ (u : List ℕ). 86 ∷ 80 ∷ (name ++ u)) (sym (drop-drop (length name) 2 (blank_head ++ t)) ∙ drop-front (replicate 8 32) t (length name) h)
+      ap (λ (u : List ℕ). 86 ∷ 80 ∷ (name ++ u)) (drop-front (replicate 8 32) t (length name) h)
       ∙ ap (λ (u : List ℕ). 86 ∷ 80 ∷ u) (sym (append_assoc name (drop (length name) (replicate 8 32)) t) ∙ ap (λ (u : List ℕ). u ++ t) (sym (padded name h)))
-
-  pub head-laid : laid high-low 10 (laid name 2 (laid blank_head 0 out)) ≡ head_bytes name size ++ drop 12 out
-  head-laid =
-      let N : List ℕ = 86 ∷ 80 ∷ padded_name name in
-      let ten : length N ≡ 10 = omega (arith, padded-long name h) in
-      ap (λ (u : List ℕ). laid high-low 10 u) named
-      ∙ ap (λ (u : List ℕ). u ++ (high-low ++ drop 12 (N ++ t))) (take_at N t 10 ten)
-      ∙ ap (λ (u : List ℕ). N ++ (high-low ++ u)) (sym (drop-drop 2 10 (N ++ t)) ∙ ap (drop 2) (drop_at N t 10 ten) ∙ drop-drop 2 10 out)
-      ∙ sym (append_assoc N high-low (drop 12 out))
 
   pub head-long : length (head_bytes name size) ≡ 12
   head-long = omega (arith, length-append (86 ∷ 80 ∷ padded_name name) high-low, padded-long name h)
 
+-- two bytes behind the first ten
+two-set : (s t : List ℕ) (a b : ℕ) → length s ≡ 10 → 2 ≤ length t → set (set (s ++ t) 10 a) 11 b ≡ s ++ (a ∷ b ∷ drop 2 t)
+two-set s [] a b e f = absurd (omega (arith, f))
+two-set s (x ∷ []) a b e f = absurd (omega (arith, f))
+two-set s (x ∷ y ∷ t) a b e f = ap (λ (u : List ℕ). set u 11 b) (set-append_right s (x ∷ y ∷ t) 10 10 a e (omega arith)) ∙ set-append_right s (a ∷ y ∷ t) 10 11 b e (omega arith)
+
 -- as the code puts it
-pub head-put : (name : List ℕ) (size : ℕ) (out one two three : List ℕ) (a b c : Result ℕ NoRoom) → length name ≤ 8 → 12 ≤ length out → Puts blank_head out one a
-    → Puts name (mid_of 2 (length one - 2) one) two b
-    → Puts (size / 256 % 256 ∷ size % 256 ∷ []) (mid_of 10 (length (put_mid 2 (length one - 2) one two) - 10) (put_mid 2 (length one - 2) one two)) three c
-    → put_mid 10 (length (put_mid 2 (length one - 2) one two) - 10) (put_mid 2 (length one - 2) one two) three ≡ head_bytes name size ++ drop 12 out
-head-put name size out one two three a b c n m p q r =
-    let lies : one ≡ laid blank_head 0 out = (puts-prints blank_head out one a p).memory (omega (arith, m)) in
-    let long-one : length one ≡ length out = (puts-within blank_head out one a p).long in
-    let g : 2 ≤ length one = omega (arith, long-one, m) in
-    let long-two : length (back 2 one g two) ≡ length one = put-long 2 one g name two b q in
-    let h : 10 ≤ length (back 2 one g two) = omega (arith, long-two, long-one, m) in
-    put-laid 10 (back 2 one g two) h (size / 256 % 256 ∷ size % 256 ∷ []) three c r (omega (arith, long-two, long-one, m))
-    ∙ ap (laid (size / 256 % 256 ∷ size % 256 ∷ []) 10) (put-laid 2 one g name two b q (omega (arith, n, long-one, m)) ∙ ap (laid name 2) lies)
-    ∙ head-laid name n size out
+pub head-put : (name : List ℕ) (size : ℕ) (out one two : List ℕ) → length name ≤ 8 → 12 ≤ length out → one ≡ blank_head → two ≡ name
+    → set (set (put_mid 2 (2 + length name - 2) (one ++ drop 10 out) two) 10 (size / 256 % 256)) 11 (size % 256) ≡ head_bytes name size ++ drop 12 out
+head-put name size out one two n m p q =
+    let N : List ℕ = 86 ∷ 80 ∷ padded_name name in
+    let k : 2 + length name - 2 ≡ length name = omega arith in
+    rw (p, q, k) (
+    ap (λ (u : List ℕ). set (set u 10 (size / 256 % 256)) 11 (size % 256)) (named name n size out)
+    ∙ two-set N (drop 10 out) (size / 256 % 256) (size % 256) (omega (arith, padded-long name n)) (omega (arith, length-drop 10 out, m))
+    ∙ ap (λ (u : List ℕ). N ++ (size / 256 % 256 ∷ size % 256 ∷ u)) (drop-drop 2 10 out)
+    ∙ sym (append_assoc N (high-low name n size out) (drop 12 out))
+    )
 
 -- ── a volume ──
 pub fronted : (x before after : List ℕ) (n : ℕ) → Fronts x before after (Ok n) → (length x ≤ length before) × (n ≡ length x) × (take (length x) after ≡ x)
@@ -174,4 +168,4 @@ module _ (K : Known) (first : Bool) (name : List ℕ) (short : length name ≤ 8
 pub volume_promise : (spool body : List ℕ) (start : ℕ) (first : Bool) (before after : List ℕ) (r : Result ℕ NoRoom) (within after' : List ℕ) (q : Result ℕ NoRoom) → BodyPromise spool body start first within after' q
     → ((K : Known) (st : State) → BodyOut K first st within after' q → VolumeOut K first (name_at spool start) st before after r)
     → VolumePromise spool body start first before after r
-volume_promise spool body start first before after r within after' q p f K e v next ls s st c a b g = f K st (p K e v next ls s st c a b g)
+volume_promise spool _ start first before after r within after' q p f K e v next ls s st c a b g = f K st (p K e v next ls s st c a b g)

@@ -1,5 +1,6 @@
 -- A writer that was lent the output from a place on: what it does with the whole output.
 use Rattle.std.specs.Prelude.{Result, Ok, Err}
+use Rattle.std.specs.Result.{IsErr}
 use Prim.Native.Nat.{ℕ, ◌+◌, ◌-◌, ◌≤◌}
 use mathlib.Core.Bool.{Bool, true, false, cond}
 use mathlib.Core.List.{List, ◌++◌, append-nil}
@@ -21,6 +22,11 @@ use Rattle.leaves.specs.declared.NoRoom.{NoRoom}
 use Rattle.leaves.specs.NoRoom.{no_room}
 
 -- ── answers ──
+-- the one error there is
+pub no-room : {A : Type 0} (r : Result A NoRoom) → IsErr r → r ≡ Err no_room
+no-room (Ok n) e = absurd (let z : ◌≡◌ {A = ℕ} 0 1 = cc in omega arith)
+no-room (Err x) e = refl
+
 -- a text put is a text printed
 pub puts-prints : (x before after : List ℕ) (r : Result ℕ NoRoom) → Puts x before after r → Prints x before after r
 puts-prints x before after r w = record { answer = w.answer; memory = λ h. w.memory ∙ rw (le-leb (length x) (length before) h) }

@@ -3,7 +3,7 @@ use Rattle.std.specs.Prelude.{Result, Ok, Err}
 use Prim.Native.Nat.{ℕ, zero, suc, ◌+◌, ◌≤◌, ◌<◌}
 use mathlib.Core.Bool.{Bool, false}
 use mathlib.Core.List.{List, [], ◌∷◌, ◌++◌}
-use mathlib.Core.Path.{◌≡◌, sym, ◌∙◌, ap, subst}
+use mathlib.Core.Path.{◌≡◌, refl, sym, ◌∙◌, ap, subst}
 use native.Mathlib.Omega.{arith}
 use borrow.Author.Tests.{le-leb, lt-leb}
 use lib.ListN.{length, take, drop, length-append}
@@ -19,8 +19,9 @@ use Rattle.pens.specs.Shown.{shown}
 use Rattle.pens.specs.Standing.{Here, Pens}
 use Rattle.volumes.specs.Volumes.{Fronts, through, ServedAfter, BodyOut, BodyPromise}
 use Rattle.pens.proofs.Laying.{bytes-unlines, front_of}
-use Rattle.pens.proofs.Behind.{full-not, printed, unprinted}
-use Rattle.volumes.proofs.LentOutput.{puts-prints, lent, back, lent-long, lent_laid}
+use Rattle.prints.specs.Printing.{Within}
+use Rattle.pens.proofs.Behind.{within-full, full-not, printed, unprinted}
+use Rattle.volumes.proofs.LentOutput.{puts-prints, bytes-within, put-long, put-room, lent, back, lent-long, lent_laid}
 use Rattle.volumes.proofs.VolumeWalk.{Reading, Walk}
 use Rattle.leaves.specs.declared.NoRoom.{NoRoom}
 use Rattle.leaves.specs.NoRoom.{no_room}
@@ -54,6 +55,24 @@ served-here K spool first p ns (placing s m fs n o i) h = tt
 served-here K spool first p ns (skipping s m fs n o i) h = tt
 served-here K spool first p ns (ended s) h = tt
 
+-- ── what the code promises of a volume ──
+-- for every reading of it
+pub body_promise : (spool body : List ℕ) (start : ℕ) (first : Bool) (before after : List ℕ) (r : Result ℕ NoRoom)
+    → ((x : Reading spool body start first) → BodyOut x.known first x.ends before after r) → BodyPromise spool body start first before after r
+body_promise spool body start first before after r f K e v next ls s st c a b q = f (record {
+  known = K;
+  env = e;
+  volume = v;
+  name = next;
+  lines = ls;
+  set = s;
+  ends = st;
+  class-is = c;
+  all_lines = a;
+  begins = b;
+  goes = q;
+})
+
 module _ (spool body : List ℕ) (start : ℕ) (first : Bool) (before : List ℕ) (p : Pen) (at from : ℕ) (going : Bool) (ns out : List ℕ) (w : Walk spool body start first before p at from going ns out) (over : going ≡ false) (part : List ℕ) where
   -- the reading is where it ends
   ends-here : (x : Reading spool body start first) → Pens x.known spool first p ns out x.ends
@@ -74,7 +93,7 @@ module _ (spool body : List ℕ) (start : ℕ) (first : Bool) (before : List ℕ
     whole_long : length (unlines (shown x.known first x.ends)) ≡ p.at + 1
     whole_long = ap length whole ∙ length-append text (26 ∷ []) ∙ ap (λ (k : ℕ). k + 1) (sym (ends-here x).at)
 
-    pub body-wrote : (n : ℕ) → Puts (26 ∷ []) (lent p.at out w.safe.within) part (Ok n)
+    body-wrote : (n : ℕ) → Puts (26 ∷ []) (lent p.at out w.safe.within) part (Ok n)
         → BodyOut x.known first x.ends before (back p.at out w.safe.within part) (Ok (p.at + n))
     body-wrote n z =
         let y = puts-prints (26 ∷ []) (lent p.at out w.safe.within) part (Ok n) z in
@@ -89,7 +108,7 @@ module _ (spool body : List ℕ) (start : ℕ) (first : Bool) (before : List ℕ
           served = λ m e. served-here x.known spool first p ns x.ends (ends-here x).here;
         }
 
-    pub body_unwrote : Puts (26 ∷ []) (lent p.at out w.safe.within) part (Err no_room) → BodyOut x.known first x.ends before (back p.at out w.safe.within part) (Err no_room)
+    body_unwrote : Puts (26 ∷ []) (lent p.at out w.safe.within) part (Err no_room) → BodyOut x.known first x.ends before (back p.at out w.safe.within part) (Err no_room)
     body_unwrote z =
         let short = unprinted (26 ∷ []) (lent p.at out w.safe.within) part (puts-prints (26 ∷ []) (lent p.at out w.safe.within) part (Err no_room) z) in
         record {
@@ -97,23 +116,21 @@ module _ (spool body : List ℕ) (start : ℕ) (first : Bool) (before : List ℕ
           served = λ m e. full-not e;
         }
 
--- ── what the code promises of a volume ──
--- for every reading of it
-pub body_promise : (spool body : List ℕ) (start : ℕ) (first : Bool) (before after : List ℕ) (r : Result ℕ NoRoom)
-    → ((x : Reading spool body start first) → BodyOut x.known first x.ends before after r) → BodyPromise spool body start first before after r
-body_promise spool body start first before after r f K e v next ls s st c a b q = f (record {
-  known = K;
-  env = e;
-  volume = v;
-  name = next;
-  lines = ls;
-  set = s;
-  ends = st;
-  class-is = c;
-  all_lines = a;
-  begins = b;
-  goes = q;
-})
+  -- as the code puts it
+  pub ends-full : Puts (26 ∷ []) (lent p.at out w.safe.within) part (Err no_room)
+      → Within before (back p.at out w.safe.within part) (Err no_room) × (length ns ≡ 28) × BodyPromise spool body start first before (back p.at out w.safe.within part) (Err no_room)
+  ends-full z =
+      let r : Result ℕ NoRoom = Err no_room in
+      (within-full before (back p.at out w.safe.within part) (put-long p.at out w.safe.within (26 ∷ []) part r z ∙ w.long), w.many, body_promise spool body start first before (back p.at out w.safe.within part) r (λ x. body_unwrote x z))
+
+  pub ends-well : (n : ℕ) → Puts (26 ∷ []) (lent p.at out w.safe.within) part (Ok n)
+      → Within before (back p.at out w.safe.within part) (Ok (p.at + n)) × (length ns ≡ 28) × BodyPromise spool body start first before (back p.at out w.safe.within part) (Ok (p.at + n))
+  ends-well n z = (
+    bytes-within before (back p.at out w.safe.within part) (p.at + n) (put-long p.at out w.safe.within (26 ∷ []) part (Ok n) z ∙ w.long)
+        (omega (arith, put-room p.at out w.safe.within (26 ∷ []) part (Ok n) n z refl, w.long)),
+    w.many,
+    body_promise spool body start first before (back p.at out w.safe.within part) (Ok (p.at + n)) (λ x. body-wrote x n z),
+  )
 
 -- a line had no room
 pub body-short : (K : Known) (first : Bool) (st : State) (before after : List ℕ) → length before < length (line_bytes (shown K first st)) → BodyOut K first st before after (Err no_room)

@@ -29,11 +29,8 @@ fn on_eof(pen: Pen, out: &mut [u8]) -> Result<Pen, NoRoom>
     requires { Safe pen out.old }
     ensures { Kept out.old out.new result × EofLine pen out.old out.new result }
 {
-    let from = pen.at;
-    match put_plain(b"EOF", &mut out[from..]) {
-        Ok(n) => Ok(at_block(pen, n, BLOCK_TOP, 0)),
-        Err(NoRoom) => Err(NoRoom),
-    }
+    let n = put_plain(b"EOF", &mut out[pen.at..])?;
+    Ok(at_block(pen, n, BLOCK_TOP, 0))
 }
 
 // What one line writes.
@@ -52,19 +49,11 @@ fn on_line(
     ensures { Kept out.old out.new result × (length notes.new ≡ most_rows) × DrawPromise s.now body.now start from first form pen notes.old notes.new out.old out.new result }
 {
     match form {
-        LineForm::Ignored => Ok(pen),
-        LineForm::Refused(_) => Ok(pen),
+        LineForm::Ignored | LineForm::Refused(_) => Ok(pen),
         LineForm::Close => on_close(s, body, start, from, first, pen, notes, out),
         LineForm::Eof => on_eof(pen, out),
-        LineForm::Opens(o) => {
-            let key = o.key;
-            on_key(s, first, key, Rest::Brace, pen, notes, out)
-        }
-        LineForm::Equals(q) => {
-            let key = q.key;
-            let rest = q.rest;
-            on_key(s, first, key, Rest::Equals(rest), pen, notes, out)
-        }
+        LineForm::Opens(o) => on_key(s, first, o.key, Rest::Brace, pen, notes, out),
+        LineForm::Equals(q) => on_key(s, first, q.key, Rest::Equals(q.rest), pen, notes, out),
     }
 }
 
@@ -72,10 +61,7 @@ fn on_line(
 fn wire_from(pen: Pen, from: u32, next: u32) -> u32
     ensures { result ≡ cond (eqb pen.block block_wire) from next }
 {
-    if pen.block == BLOCK_WIRE {
-        return from;
-    }
-    next
+    if pen.block == BLOCK_WIRE { from } else { next }
 }
 
 // The lines of a volume, which is the part `body` of the spool from `start` on, and the byte 1A behind them.
@@ -99,34 +85,17 @@ fn put_body(
     };
     let mut at = start;
     let mut from = start;
-    let mut going = true;
-    while going {
-        match look(body, start, at, 1, 1) {
-            None => {
-                going = false;
-            }
-            Some(seen) => {
-                let form = seen.form;
-                let began = wire_from(pen, from, seen.next);
-                match on_line(s, body, start, from, first, form, pen, notes, out) {
-                    Ok(p) => {
-                        pen = p;
-                    }
-                    Err(NoRoom) => {
-                        return Err(NoRoom);
-                    }
-                }
-                at = seen.next;
-                from = began;
-                going = !seen.last;
-            }
+    while let Some(seen) = look(body, start, at, 1, 1) {
+        let began = wire_from(pen, from, seen.next);
+        pen = on_line(s, body, start, from, first, seen.form, pen, notes, out)?;
+        at = seen.next;
+        from = began;
+        if seen.last {
+            break;
         }
     }
-    let from = pen.at;
-    let Ok(n) = put(&[26u8], &mut out[from..]) else {
-        return Err(NoRoom);
-    };
-    Ok(from + n)
+    let n = put(&[26u8], &mut out[pen.at..])?;
+    Ok(pen.at + n)
 }
 
 // "mark 56 50 hex; 8 name bytes (1 to 8 of A-Z, 0-9, then spaces); length as 2 bytes, high first"
@@ -134,11 +103,10 @@ fn put_head(name: &[u8], size: usize, out: &mut [u8])
     requires { (length name.now ≤ 8) × (12 ≤ length out.old) }
     ensures { out.new ≡ head_bytes name.now size ++ drop 12 out.old }
 {
-    let _ = put(b"VP        ", out);
-    let _ = put(name, &mut out[2..]);
-    let high = (size / 256 % 256) as u8;
-    let low = (size % 256) as u8;
-    let _ = put(&[high, low], &mut out[10..]);
+    out[..10].copy_from_slice(b"VP        ");
+    out[2..2 + name.len()].copy_from_slice(name);
+    out[10] = (size / 256 % 256) as u8;
+    out[11] = (size % 256) as u8;
 }
 
 // A volume, behind its head.
@@ -156,9 +124,7 @@ fn put_volume(
     if out.len() < 12 {
         return Err(NoRoom);
     }
-    let Ok(n) = put_body(s, body, start, first, notes, &mut out[12..]) else {
-        return Err(NoRoom);
-    };
+    let n = put_body(s, body, start, first, notes, &mut out[12..])?;
     put_head(volume_name(s, start), n, out);
     Ok(n + 12)
 }
@@ -171,8 +137,7 @@ pub fn put_set(s: &[u8], out: &mut [u8]) -> Result<usize, NoRoom>
     let count = l.count as usize;
     let mut notes = [0u32; MOST_ROWS];
     let mut at = 0;
-    let mut i = 0;
-    while i < count {
+    for i in 0..count {
         let start = l.places[i];
         let body = part(
             s,
@@ -181,12 +146,7 @@ pub fn put_set(s: &[u8], out: &mut [u8]) -> Result<usize, NoRoom>
                 len: l.lengths[i],
             },
         );
-        let wrote = put_volume(s, body, start, i == 0, &mut notes, &mut out[at..]);
-        let Ok(n) = wrote else {
-            return Err(NoRoom);
-        };
-        at += n;
-        i += 1;
+        at += put_volume(s, body, start, i == 0, &mut notes, &mut out[at..])?;
     }
     Ok(at)
 }

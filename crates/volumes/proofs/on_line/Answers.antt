@@ -1,18 +1,28 @@
 use Rattle.std.specs.Prelude.{Ok}
-use mathlib.Core.Path.{refl}
+use Prim.Native.Nat.{ℕ}
+use mathlib.Core.Bool.{Bool}
+use mathlib.Core.List.{List}
+use mathlib.Core.Logic.{◌⊎◌, inl, inr}
+use mathlib.Core.Path.{◌≡◌, refl}
+use lib.ListN.{length}
+use Rattle.rules.specs.declared.LineForm.{LineForm}
+use Rattle.rules.specs.declared.Refusal.{Refusal}
+use Rattle.pens.specs.declared.Pen.{Pen}
+use Rattle.pens.specs.Drawing.{DrawPromise}
 use Rattle.rules.specs.declared.LineForm.TheVariants.{Ignored, Close, Eof, Opens, Equals, Refused}
 use Rattle.volumes.proofs.LineLaws.{line_same}
 use Rattle.volumes.proofs.on_line.Goals as goal
 
+-- a line that writes nothing
+unwritten : (s body : List ℕ) (start from : ℕ) (first : Bool) (form : LineForm) (pen : Pen) (notes out : List ℕ) → length notes ≡ 28 → (form ≡ Ignored) ⊎ ((x : Refusal) × (form ≡ Refused x))
+    → DrawPromise s body start from first form pen notes notes out out (Ok pen)
+unwritten s body start from first form pen notes out m (inl e) = line_same s body start from first form Ignored pen notes notes out out (Ok pen) e refl m (refl, refl, refl)
+unwritten s body start from first form pen notes out m (inr (x, e)) = line_same s body start from first form (Refused x) pen notes notes out out (Ok pen) e refl m tt
+
 pub returns-in-Ignored : goal.returns-in-Ignored
 returns-in-Ignored c =
     let a = c.args in
-    (record { safe = c.requires.0; long = refl }, c.requires.1, line_same a.s.now a.body.now a.start a.from a.first a.form Ignored a.pen a.notes.now a.notes.now a.out.now a.out.now (Ok a.pen) c.in-Ignored.is refl c.requires.1 (refl, refl, refl))
-
-pub returns-in-Refused : goal.returns-in-Refused
-returns-in-Refused c =
-    let a = c.args in
-    (record { safe = c.requires.0; long = refl }, c.requires.1, line_same a.s.now a.body.now a.start a.from a.first a.form (Refused _) a.pen a.notes.now a.notes.now a.out.now a.out.now (Ok a.pen) c.in-Refused.is refl c.requires.1 tt)
+    (record { safe = c.requires.0; long = refl }, c.requires.1, unwritten a.s.now a.body.now a.start a.from a.first a.form a.pen a.notes.now a.out.now c.requires.1 c.in-Ignored.is)
 
 pub returns-in-Close : goal.returns-in-Close
 returns-in-Close c =

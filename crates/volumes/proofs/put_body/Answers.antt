@@ -1,82 +1,44 @@
-use mathlib.Core.Path.{sym, ◌∙◌}
-use Rattle.pens.proofs.Behind.{within-full}
-use Rattle.volumes.proofs.LentOutput.{bytes-within, put-long, put-room}
-use Prim.Native.Nat.{◌+◌}
-use mathlib.Core.Bool.{not}
+use mathlib.Core.Path.{refl, sym, ◌∙◌}
 use native.Mathlib.Omega.{arith}
-use lib.ListN.{length}
-use Rattle.pens.proofs.LinesLeft.{fewer-none, fewer}
-use Rattle.volumes.proofs.VolumeWalk.{walk_begins, walk_ends, walk-on, walk-short}
-use Rattle.volumes.proofs.VolumeEnd.{body_promise, body-short, body-wrote, body_unwrote}
+use Rattle.std.proofs.Common.{false}
+use Rattle.lines.proofs.LinesSeen.{look-forward}
+use Rattle.pens.proofs.Behind.{within-full}
+use Rattle.volumes.proofs.LentOutput.{no-room}
+use Rattle.volumes.proofs.VolumeWalk.{Walk, walk_ends, walk-on, walk-short}
+use Rattle.volumes.proofs.VolumeEnd.{body_promise, body-short, ends-full, ends-well}
+use Rattle.volumes.proofs.put_body.Goals.{in-Some+in_ok-pen+then-seen, in_default}
 use Rattle.volumes.proofs.put_body.Goals as goal
 
-pub loop-going-init : goal.loop-going-init
-loop-going-init c = walk_begins _ _ _ _ _ _ c.requires
-
-pub loop-going-smaller-in-None : goal.loop-going-smaller-in-None
-loop-going-smaller-in-None c = fewer-none (c.args.start + length c.args.body.now) c.loop-going.at c.loop-going.going c.loop-going-test.true
-
-pub loop-going-preserved-in-None : goal.loop-going-preserved-in-None
-loop-going-preserved-in-None c = walk_ends _ _ _ _ _ _ _ _ _ _ _ c.loop-going.invariant (sym c.look.ensures ∙ c.in-None.is)
-
-pub on_line-requires : goal.on_line-requires
-on_line-requires c = (c.loop-going.invariant.safe, c.loop-going.invariant.many)
-
-pub shape_of-notes-in-Err : goal.shape_of-notes-in-Err
-shape_of-notes-in-Err c = c.on_line.ensures.1 ∙ sym c.requires
-
-pub shape_of-out-in-Err : goal.shape_of-out-in-Err
-shape_of-out-in-Err c = c.on_line.ensures.0.long ∙ c.loop-going.invariant.long
-
-pub returns-in-Err : goal.returns-in-Err
-returns-in-Err c = (
-  within-full _ _ (c.on_line.ensures.0.long ∙ c.loop-going.invariant.long),
+pub returns-in_err-pen : goal.returns-in_err-pen
+returns-in_err-pen c = (
+  rw (no-room c.from_residual.result c.from_residual.ensures.0) (within-full _ _ (c.on_line.ensures.0.long ∙ c.loop-seen.invariant.long)),
   c.on_line.ensures.1,
-  body_promise _ _ _ _ _ _ _ (λ x. body-short x.known _ x.ends _ _
-      (walk-short _ _ _ _ _ _ _ _ _ _ _ c.loop-going.invariant c.in-Some.seen (sym c.look.ensures ∙ c.in-Some.is) _ _ _ c.on_line.ensures.2 x c.in-Err.is c.on_line.ensures.0.long)),
+  rw (no-room c.from_residual.result c.from_residual.ensures.0) (body_promise _ _ _ _ _ _ _ (λ x. body-short x.known _ x.ends _ _
+      (walk-short _ _ _ _ _ _ _ _ _ _ _ c.loop-seen.invariant c.in-Some.seen (sym c.look.ensures ∙ c.in-Some.is) _ _ _ c.on_line.ensures.2 x (c.in_err-pen.was) c.on_line.ensures.0.long))),
 )
 
-pub loop-going-smaller : goal.loop-going-smaller
-loop-going-smaller c = fewer c.args.body.now c.args.start c.loop-going.at c.loop-going.going (not c.in-Some.seen.last) c.in-Some.seen c.loop-going-test.true (sym c.look.ensures ∙ c.in-Some.is)
+pub loop-seen-smaller : goal.loop-seen-smaller
+loop-seen-smaller c = let f = look-forward 1 1 c.args.start c.loop-seen.at c.args.body.now c.in-Some.seen (sym c.look.ensures ∙ c.in-Some.is) in omega (arith, f.0, f.1)
 
-pub loop-going-preserved : goal.loop-going-preserved
-loop-going-preserved c = walk-on _ _ _ _ _ _ _ _ _ _ _ c.loop-going.invariant c.in-Some.seen (sym c.look.ensures ∙ c.in-Some.is) _ _ _ c.on_line.ensures.2 _ c.in-Ok.is c.on_line.ensures.0.long c.on_line.ensures.1 c.on_line.ensures.0.safe _ c.wire_from-began.ensures
+pub loop-seen-preserved : goal.loop-seen-preserved
+loop-seen-preserved c = rw c.if-seen.false at (walk-on _ _ _ _ _ _ _ _ _ _ _ c.loop-seen.invariant c.in-Some.seen (sym c.look.ensures ∙ c.in-Some.is) _ _ _ c.on_line.ensures.2 _ (c.in_ok-pen.was) c.on_line.ensures.0.long c.on_line.ensures.1 c.on_line.ensures.0.safe _ c.wire_from-began.ensures)
 
-pub slice_bounds-put-count : goal.slice_bounds-put-count
-slice_bounds-put-count c = omega (arith, c.loop-going.invariant.safe.within)
-
-pub slice_bounds-put-start : goal.slice_bounds-put-start
-slice_bounds-put-start c = omega (arith, c.loop-going.invariant.safe.within)
-
-pub slice_bounds-put-end-2 : goal.slice_bounds-put-end-2
-slice_bounds-put-end-2 c = omega (arith, c.loop-going.invariant.safe.within)
-
-pub shape_of-notes-in_default : goal.shape_of-notes-in_default
-shape_of-notes-in_default c = c.loop-going.invariant.many ∙ sym c.requires
-
-pub shape_of-out-in_default : goal.shape_of-out-in_default
-shape_of-out-in_default c = put-long c.loop-going.pen.at c.loop-going.out c.loop-going.invariant.safe.within _ _ _ c.put.ensures ∙ c.loop-going.invariant.long
-
-pub returns-in_default : goal.returns-in_default
-returns-in_default c = (
-  within-full _ _ (put-long c.loop-going.pen.at c.loop-going.out c.loop-going.invariant.safe.within _ _ _ c.put.ensures ∙ c.loop-going.invariant.long),
-  c.loop-going.invariant.many,
-  body_promise _ _ _ _ _ _ _ (λ x. body_unwrote _ _ _ _ _ _ _ _ _ _ _ c.loop-going.invariant c.loop-going-test.false _ x (rw c.in_default.is at c.put.ensures)),
-)
-
-pub overflow_add-result : goal.overflow_add-result
-overflow_add-result c = omega (arith, put-room c.loop-going.pen.at c.loop-going.out c.loop-going.invariant.safe.within _ _ _ _ c.put.ensures c.in-Ok-put.is, c.loop-going.invariant.long)
-
-pub shape_of-notes : goal.shape_of-notes
-shape_of-notes c = c.loop-going.invariant.many ∙ sym c.requires
-
-pub shape_of-out : goal.shape_of-out
-shape_of-out c = put-long c.loop-going.pen.at c.loop-going.out c.loop-going.invariant.safe.within _ _ _ c.put.ensures ∙ c.loop-going.invariant.long
+pub returns-in_err-n : goal.returns-in_err-n
+returns-in_err-n c =
+    let over : Walk c.args.s.now c.args.body.now c.args.start c.args.first c.args.out.now c.match-look.pen c.match-look.at c.match-look.from false c.match-look.notes c.match-look.out =
+    elim c.match-look.branch [
+      | in-Some+in_ok-pen+then-seen w ↦ rw (w.pen-is, w.at-is, w.from-is, w.notes-is, w.out-is)
+          (rw w.if-seen.true at (walk-on _ _ _ _ _ _ _ _ _ _ _ c.loop-seen.invariant w.in-Some.seen (sym c.look.ensures ∙ w.in-Some.is) _ _ _ w.on_line.ensures.2 _ w.in_ok-pen.was w.on_line.ensures.0.long w.on_line.ensures.1 w.on_line.ensures.0.safe _ w.wire_from-began.ensures))
+      | in_default w ↦ rw (w.pen-is, w.at-is, w.from-is, w.notes-is, w.out-is) (walk_ends _ _ _ _ _ _ _ _ _ _ _ c.loop-seen.invariant (sym c.look.ensures ∙ w.in_default.is))
+    ] in
+    rw (no-room c.from_residual-in_err-n.result c.from_residual-in_err-n.ensures.0) (ends-full _ _ _ _ _ _ _ _ _ _ _ over refl _ c.in_err-n.ensures)
 
 pub returns : goal.returns
-returns c = (
-  bytes-within _ _ _ (put-long c.loop-going.pen.at c.loop-going.out c.loop-going.invariant.safe.within _ _ _ c.put.ensures ∙ c.loop-going.invariant.long)
-      (omega (arith, put-room c.loop-going.pen.at c.loop-going.out c.loop-going.invariant.safe.within _ _ _ _ c.put.ensures c.in-Ok-put.is, c.loop-going.invariant.long)),
-  c.loop-going.invariant.many,
-  body_promise _ _ _ _ _ _ _ (λ x. body-wrote _ _ _ _ _ _ _ _ _ _ _ c.loop-going.invariant c.loop-going-test.false _ x _ (rw c.in-Ok-put.is at c.put.ensures)),
-)
+returns c =
+    let over : Walk c.args.s.now c.args.body.now c.args.start c.args.first c.args.out.now c.match-look.pen c.match-look.at c.match-look.from false c.match-look.notes c.match-look.out =
+    elim c.match-look.branch [
+      | in-Some+in_ok-pen+then-seen w ↦ rw (w.pen-is, w.at-is, w.from-is, w.notes-is, w.out-is)
+          (rw w.if-seen.true at (walk-on _ _ _ _ _ _ _ _ _ _ _ c.loop-seen.invariant w.in-Some.seen (sym c.look.ensures ∙ w.in-Some.is) _ _ _ w.on_line.ensures.2 _ w.in_ok-pen.was w.on_line.ensures.0.long w.on_line.ensures.1 w.on_line.ensures.0.safe _ w.wire_from-began.ensures))
+      | in_default w ↦ rw (w.pen-is, w.at-is, w.from-is, w.notes-is, w.out-is) (walk_ends _ _ _ _ _ _ _ _ _ _ _ c.loop-seen.invariant (sym c.look.ensures ∙ w.in_default.is))
+    ] in
+    ends-well _ _ _ _ _ _ _ _ _ _ _ over refl _ _ c.in_ok-n.ensures
