@@ -1,4 +1,6 @@
 -- The rows of a table: which are required, and what a line of one does.
+use Rattle.std.specs.Prelude.{cond, Option, Some, None, map}
+use Rattle.std.specs.List.{list_all, zip}
 use Prim.Native.Nat.{ℕ, zero, suc, ◌+◌, ◌<◌, ◌≤◌}
 use mathlib.Core.Path.{◌≡◌, refl, ap, sym, subst, ◌∙◌}
 use mathlib.Core.Bool.{Bool, true, false, ◌&&◌, ◌||◌, not}
@@ -25,7 +27,7 @@ use Rattle.rules.proofs.Rows.{found-row, row-all, row_at, reaches-none}
 use Rattle.tables.specs.Tables.{table_of}
 use Rattle.tables.specs.Rows.{rule_of, for_line, found_for_line}
 use Rattle.tables.specs.declared.Row.{Row}
-use Rattle.entries.specs.Acts.{place_of, put_line, roomy, next_of, Entered, Acts, wanted, needs_none}
+use Rattle.entries.specs.Acts.{place_of, put_line, roomy, next_of, Entered, Acts, asked_from, wanted}
 use Rattle.entries.specs.declared.Next.{Next}
 use Rattle.entries.proofs.LineActs.{room-place, room-state, room_settled}
 
@@ -57,102 +59,23 @@ by-table P n p0 p1 p2 p3 p4 p5 p6 p7 p8 p9 p10 p11 p12 p13 p14 p15 p16 p17 p18 p
     by_cond (P n) (eqb n 21) (λ e. subst (λ (m : ℕ). P m (layer_table false true)) (sym (eqb-true n 21 e)) p21) λ _.
     by_cond (P n) (eqb n 22) (λ e. subst (λ (m : ℕ). P m (layer_table true true)) (sym (eqb-true n 22 e)) p22) λ _. z
 
--- ── rows by number ──
-pub all-at : (q : Rule → Bool) (t : List Rule) (i : ℕ) → all q t ≡ true → i < length t → q (rule_at t i) ≡ true
-all-at q [] i e h = absurd (omega arith)
-all-at q (r ∷ t) zero e h = and_left (q r) (all q t) e
-all-at q (r ∷ t) (suc i) e h = all-at q t i (and_right (q r) (all q t) e) (omega arith)
-
--- all rows but those of the numbers js, where the first row's number is n
-abbrev all_but : (Rule → Bool) → List ℕ → ℕ → List Rule → Bool
-all_but q js n [] = true
-all_but q js n (r ∷ t) = (has_number n js || q r) && all_but q js (suc n) t
-
-but-at : (q : Rule → Bool) (js : List ℕ) (t : List Rule) (n i j : ℕ) → j ≡ n + i → all_but q js n t ≡ true → i < length t → has_number j js ≡ false → q (rule_at t i) ≡ true
-but-at q js [] n i j s e h m = absurd (omega arith)
-but-at q js (r ∷ t) n zero j s e h m =
-    let k : n ≡ j = omega (arith, s) in
-    rw (k, m) at (and_left (has_number n js || q r) (all_but q js (suc n) t) e)
-but-at q js (r ∷ t) n (suc i) j s e h m = but-at q js t (suc n) i j (omega (arith, s)) (and_right (has_number n js || q r) (all_but q js (suc n) t) e) (omega arith) m
-
--- ── which rows are required ──
-abbrev is_optional : Rule → Bool
-is_optional r = not r.must
-
--- at every range
-abbrev is_plain : Rule → Bool
-is_plain r = r.must && (eqb r.least.middle 0 && eqb r.least.last 0)
-
-module _ (d : Digits) (r : Rule) where
-  unwanted : is_optional r ≡ true → wanted d r ≡ false
-  unwanted e = rw (not-true r.must e)
-
-  always : is_plain r ≡ true → wanted d r ≡ true
-  always e =
-      let m = and_left r.must (eqb r.least.middle 0 && eqb r.least.last 0) e in
-      let b = and_right r.must (eqb r.least.middle 0 && eqb r.least.last 0) e in
-      let x = eqb-true r.least.middle 0 (and_left (eqb r.least.middle 0) (eqb r.least.last 0) b) in
-      let y = eqb-true r.least.last 0 (and_right (eqb r.least.middle 0) (eqb r.least.last 0) b) in
-      rw (m, x, y) (reaches-none d)
-
--- tables that are told apart from the others
-abbrev is_own : ℕ → Bool
-is_own n = needs_none n || (eqb n 2 || (eqb n 18 || (eqb n 7 || (eqb n 9 || eqb n 20))))
-
-none-all : (n : ℕ) → (not (needs_none n) || all is_optional (table_of n)) ≡ true
-unfolding top_table file_table range_table base_table elec_table sym_table later_table drawing_table defines_table symbol_table element_table layer_table figure_table point_table text_table placed_table wire_table
-none-all n = by-table (λ n t. (not (needs_none n) || all is_optional t) ≡ true) n refl refl refl refl refl refl refl refl refl refl refl refl refl refl refl refl refl refl refl refl refl refl refl (or_true (not (needs_none n)))
-
-plain-all : (n : ℕ) → (is_own n || all is_plain (table_of n)) ≡ true
-unfolding top_table file_table range_table base_table elec_table sym_table later_table drawing_table defines_table symbol_table element_table layer_table figure_table point_table text_table placed_table wire_table
-plain-all n = by-table (λ n t. (is_own n || all is_plain t) ≡ true) n refl refl refl refl refl refl refl refl refl refl refl refl refl refl refl refl refl refl refl refl refl refl refl (or_true (is_own n))
-
-module _ (d : Digits) (i : ℕ) where
-  pub none-wanted : (n : ℕ) → needs_none n ≡ true → i < length (table_of n) → false ≡ wanted d (rule_at (table_of n) i)
-  none-wanted n e h = sym (unwanted d (rule_at (table_of n) i) (all-at is_optional (table_of n) i (rw e at (none-all n)) h))
-
-  pub plain-wanted : (n : ℕ) → needs_none n ≡ false → (n ≡ 2 → ⊥) → (n ≡ 18 → ⊥) → (n ≡ 7 → ⊥) → (n ≡ 9 → ⊥) → (n ≡ 20 → ⊥) → i < length (table_of n) → true ≡ wanted d (rule_at (table_of n) i)
-  plain-wanted n e a b c f g h = sym (always d (rule_at (table_of n) i) (all-at is_plain (table_of n) i (rw (e, ne_eqb n 2 a, ne_eqb n 18 b, ne_eqb n 7 c, ne_eqb n 9 f, ne_eqb n 20 g) at (plain-all n)) h))
-
--- in a table with rows of both sorts: those that are not told apart by their numbers
-module _ (d : Digits) (i : ℕ) (t : List Rule) (js : List ℕ) where
-  pub others-wanted : all_but is_plain js 0 t ≡ true → i < length t → has_number i js ≡ false → true ≡ wanted d (rule_at t i)
-  others-wanted e h m = sym (always d (rule_at t i) (but-at is_plain js t 0 i i (omega arith) e h m))
-
-  pub others-unwanted : all_but is_optional js 0 t ≡ true → i < length t → has_number i js ≡ false → false ≡ wanted d (rule_at t i)
-  others-unwanted e h m = sym (unwanted d (rule_at t i) (but-at is_optional js t 0 i i (omega arith) e h m))
-
 -- ── all that is required ──
-pub there-full : (d : Digits) (r : Rule) (b : Bool) → b ≡ true → true ≡ present d r b
-there-full d r b e = sym (rw (e, or_true (not (reaches d r.least))) (or_true (not r.must)))
+abbrev pub is_there : Digits → Option Digits × Bool → Bool
+is_there d p = p.1 || not (wanted d p.0)
 
-pub there-not : (d : Digits) (r : Rule) (b : Bool) → b ≡ false → not (wanted d r) ≡ present d r b
-there-not d r b e = rw e (go r.must (reaches d r.least))
+pub all-there : (d : Digits) (t : List Rule) (bs : List Bool) → list_all (is_there d) (zip (map asked_from t) bs) ≡ complete d t bs
+all-there d [] bs = refl
+all-there d (r ∷ t) [] = refl
+all-there d (r ∷ t) (b ∷ bs) = rw (all-there d t bs) (ap (λ (x : Bool). x && complete d t bs) (there-is r.must b))
   where
-    go : (m l : Bool) → not (m && l) ≡ (not m || (not l || false))
-    go true true = refl
-    go true false = refl
-    go false l = refl
+    turned : (a b : Bool) → (a || b) ≡ (b || a)
+    turned true b = sym (or_true b)
+    turned false true = refl
+    turned false false = refl
 
-module _ (d : Digits) (t : List Rule) (b : List Bool) (i : ℕ) where
-  row_drop : i < length t → drop i t ≡ rule_at t i ∷ drop (i + 1) t
-  row_drop h = rw (add-one i) (drop-cons t i _ h)
-
-  mark-drop : i < length b → drop i b ≡ get_or b i false ∷ drop (i + 1) b
-  mark-drop h = rw (add-one i) (drop-cons b i false h)
-
-  pub complete-step : i < length t → i < length b → present d (rule_at t i) (get_or b i false) ≡ true → complete d (drop i t) (drop i b) ≡ complete d (drop (i + 1) t) (drop (i + 1) b)
-  complete-step h k e = rw (row_drop h, mark-drop k, e)
-
-  pub complete-not : i < length t → i < length b → present d (rule_at t i) (get_or b i false) ≡ false → complete d (drop i t) (drop i b) ≡ false
-  complete-not h k e = rw (row_drop h, mark-drop k, e)
-
-  pub complete-end : length b ≤ i → complete d (drop i t) (drop i b) ≡ true
-  complete-end h = rw (drop_of_length-le b h) (go (drop i t))
-    where
-      go : (t : List Rule) → complete d t [] ≡ true
-      go [] = refl
-      go (r ∷ t) = refl
+    there-is : (m b : Bool) → (b || not (wanted d (cond m (Some r.least) None))) ≡ (not m || (not (reaches d r.least) || b))
+    there-is true b = turned b (not (reaches d r.least))
+    there-is false b = or_true b
 
 -- ── a line of a table ──
 pub no_row : (f : Found) → found_for_line f ≡ absent → f ≡ absent

@@ -1,5 +1,5 @@
 -- What a line does in its block, and what it leaves in the lent numbers.
-use Rattle.std.specs.Prelude.{ℕ, zero, suc, ◌+◌, ◌≡◌, Bool, cond, ◌&&◌, ◌||◌, not, List, eqb, leb, ltb, ℤ}
+use Rattle.std.specs.Prelude.{ℕ, zero, suc, ◌+◌, ◌≡◌, Bool, false, cond, ◌&&◌, not, List, leb, ltb, ℤ, Option, Some, None}
 use Rattle.std.proofs.lemmas.List.Edits.{sets}
 use Rattle.rules.specs.declared.Digits.{Digits}
 use Rattle.rules.specs.RefusalNumbers.{unless, and_then, got}
@@ -13,7 +13,6 @@ use Rattle.entries.specs.declared.Next.{Next}
 use Rattle.entries.specs.declared.Next.TheVariants as N
 use Rattle.entries.specs.declared.Shape.{Shape as Placed}
 use Rattle.entries.specs.declared.Shape.TheVariants as P
-use Rattle.tables.specs.Numbering.{table_top, table_defines, table_element, table_symbol_points, table_wired_layer, table_single_wired_layer}
 
 -- ── the places ──
 -- a row without a place of its own goes to another one
@@ -78,9 +77,10 @@ abbrev pub next_for : Bool → ℕ → ℕ → Placed → Next
 next_for full j i s = cond full (N.Refuse 11) (next_by j i s)
 
 -- ── what a block must have ──
-abbrev pub wanted : Digits → Rule → Bool
-wanted d r = r.must && reaches d r.least
+-- from which digits of the range on it must have a row, where it must at all
+abbrev pub asked_from : Rule → Option Digits
+asked_from r = cond r.must (Some r.least) None
 
--- the tables of which no row is required, by number
-abbrev pub needs_none : ℕ → Bool
-needs_none n = eqb n table_top || (eqb n table_defines || cond (leb table_wired_layer n) (leb n table_single_wired_layer) (leb table_element n && leb n table_symbol_points))
+abbrev pub wanted : Digits → Option Digits → Bool
+wanted d None = false
+wanted d (Some least) = reaches d least

@@ -7,74 +7,24 @@ ghost use Rattle.rules.specs.RecordTable.{rule_at};
 ghost use Rattle.tables.specs.Tables.{table_of};
 ghost use Rattle.entries.specs.Names.{known_in};
 ghost use Rattle.entries.specs.Shapes.{rest_in};
-ghost use Rattle.entries.specs.Acts.{roomy, next_of, Acts, wanted, needs_none};
+ghost use Rattle.entries.specs.Acts.{roomy, next_of, Acts, wanted};
 
 use crate::names::part;
-use crate::required::{drawing_wants, placed_wants, range_wants, symbol_wants, wire_wants};
-use crate::row_lines::act_row;
+use crate::required::required;
+use crate::row_lines::{act_row, reaches};
 use crate::shapes::{key_of, rest_of, shape_for};
 use crate::{Next, Rest, Shape};
 use rules::{Digits, LineForm, Span};
 use tables::lookup::row_of;
-use tables::{
-    TABLE_DEFINES, TABLE_DRAWING, TABLE_ELEMENT, TABLE_PLACED, TABLE_RANGE,
-    TABLE_SINGLE_WIRED_LAYER, TABLE_SYMBOL, TABLE_SYMBOL_POINTS, TABLE_TOP, TABLE_WIRE,
-    TABLE_WIRED_LAYER,
-};
 
-// Blocks that need not have any of their rows: those outside all blocks, of definitions, layers, figures and points.
-fn needs_none(table: u8) -> bool
-    ensures { result ≡ needs_none table }
+// A row that is asked for from these digits on must be there in a file of the range d.
+fn wants(from: Option<Digits>, d: Digits) -> bool
+    ensures { result ≡ wanted d from }
 {
-    if table == TABLE_TOP {
-        return true;
+    match from {
+        Some(least) => reaches(d, least),
+        None => false,
     }
-    if table == TABLE_DEFINES {
-        return true;
-    }
-    if TABLE_WIRED_LAYER <= table {
-        return table <= TABLE_SINGLE_WIRED_LAYER;
-    }
-    if TABLE_ELEMENT <= table {
-        return table <= TABLE_SYMBOL_POINTS;
-    }
-    false
-}
-
-// A row that a block must have in a file of the range d.
-fn wants(table: u8, row: usize, d: Digits) -> bool
-    requires { row < length (table_of table) }
-    ensures { result ≡ wanted d (rule_at (table_of table) row) }
-{
-    if needs_none(table) {
-        return false;
-    }
-    if table == TABLE_RANGE {
-        return range_wants(row, d);
-    }
-    if table == TABLE_PLACED {
-        return placed_wants(row, d);
-    }
-    if table == TABLE_DRAWING {
-        return drawing_wants(row, d);
-    }
-    if table == TABLE_SYMBOL {
-        return symbol_wants(row, d);
-    }
-    if table == TABLE_WIRE {
-        return wire_wants(row, d);
-    }
-    true
-}
-
-fn there(table: u8, row: usize, d: Digits, full: bool) -> bool
-    requires { row < length (table_of table) }
-    ensures { result ≡ present d (rule_at (table_of table) row) full }
-{
-    if full {
-        return true;
-    }
-    !wants(table, row, d)
 }
 
 // All required rows are there.
@@ -82,14 +32,10 @@ pub fn complete(table: u8, d: Digits, full: &[bool]) -> bool
     requires { length full.now ≡ length (table_of table) }
     ensures { result ≡ complete d (table_of table) full.now }
 {
-    let mut i = 0;
-    while i < full.len() {
-        if !there(table, i, d, full[i]) {
-            return false;
-        }
-        i += 1;
-    }
-    true
+    required(table)
+        .iter()
+        .zip(full)
+        .all(|(from, had)| *had || !wants(*from, d))
 }
 
 fn close(table: u8, d: Digits, full: &[bool]) -> Next

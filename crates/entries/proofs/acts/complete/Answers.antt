@@ -1,37 +1,19 @@
-use mathlib.Core.Path.{refl, sym, ◌∙◌}
-use native.Mathlib.Omega.{arith}
-use borrow.Author.Rules.{rules}
-use borrow.Author.Tests.{not-true, not-false}
+use mathlib.Core.Path.{◌≡◌, ap, ◌∙◌}
+use mathlib.Core.Bool.{Bool}
+use mathlib.Core.List.{List}
+use Rattle.std.proofs.Common.{rules, tests}
+use Rattle.std.specs.Prelude.{Option}
+use Rattle.std.specs.List.{list_all, zip}
+use Rattle.std.proofs.lemmas.Iterator.{YieldsList-from_slice, YieldsList-from_zip}
+use Rattle.std.proofs.lemmas.Iterator.Search.{all_from_yields_List}
+use Rattle.rules.specs.declared.Digits.{Digits}
 use Rattle.tables.specs.Tables.{table_of}
-use Rattle.entries.proofs.TableActs.{complete-step, complete-not, complete-end}
+use Rattle.entries.proofs.TableActs.{is_there, all-there}
 use Rattle.entries.proofs.acts.complete.Goals as goal
-
-pub loop-i-init : goal.loop-i-init
-loop-i-init c = (omega arith, refl)
-
-pub bounds-full-i : goal.bounds-full-i
-bounds-full-i c = omega arith
-
-pub there-requires : goal.there-requires
-there-requires c = omega (arith, c.loop-i-test.true, c.requires)
-
-pub returns-then-not-there : goal.returns-then-not-there
-returns-then-not-there c =
-    let a = c.args in
-    sym (c.loop-i.invariant.1 ∙ complete-not a.d (table_of a.table) a.full.now c.loop-i.i (omega (arith, c.loop-i-test.true, c.requires)) c.loop-i-test.true (sym c.there.ensures ∙ not-true c.there.result c.if-not-there.true-raw))
-
-pub overflow_add-i : goal.overflow_add-i
-overflow_add-i c = search rules
-
-pub loop-i-smaller : goal.loop-i-smaller
-loop-i-smaller c = omega arith
-
-pub loop-i-preserved : goal.loop-i-preserved
-loop-i-preserved c =
-    let a = c.args in
-    (omega arith, c.loop-i.invariant.1 ∙ complete-step a.d (table_of a.table) a.full.now c.loop-i.i (omega (arith, c.loop-i-test.true, c.requires)) c.loop-i-test.true (sym c.there.ensures ∙ not-false c.there.result c.if-not-there.false-raw))
 
 pub returns : goal.returns
 returns c =
     let a = c.args in
-    sym (c.loop-i.invariant.1 ∙ complete-end a.d (table_of a.table) a.full.now c.loop-i.i c.loop-i-test.false)
+    all_from_yields_List (is_there a.d) c.all.new.self _ _ c.all.ensures.ran (YieldsList-from_zip (YieldsList-from_slice c.required.result.now cc) (YieldsList-from_slice a.full.now cc)) (λ x b q k. search (rules, tests))
+    ∙ ap (λ (l : List (Option Digits)). list_all (is_there a.d) (zip l a.full.now)) c.required.ensures
+    ∙ all-there a.d (table_of a.table) a.full.now
