@@ -1,29 +1,27 @@
 -- The rows of a table: which are required, and what a line of one does.
 use Rattle.std.specs.Prelude.{cond, Option, Some, None, map}
 use Rattle.std.specs.List.{list_all, zip}
-use Prim.Native.Nat.{ℕ, zero, suc, ◌+◌, ◌<◌, ◌≤◌}
+use Prim.Native.Nat.{ℕ, ◌+◌, ◌≤◌}
 use mathlib.Core.Path.{◌≡◌, refl, ap, sym, subst, ◌∙◌}
 use mathlib.Core.Bool.{Bool, true, false, ◌&&◌, ◌||◌, not}
 use mathlib.Core.List.{List, [], ◌∷◌}
 use native.Mathlib.Omega.{arith}
-use native.Mathlib.Numerals.{add-one}
 use lib.Dec.{eqb}
 use lib.IntN.{ℤ}
-use lib.ListN.{length, get_or, drop, drop_of_length-le}
-use lib.Seq.{drop-cons}
-use borrow.Author.Tests.{eqb-true, ne_eqb, not-true, le-leb, lt-ltb}
+use lib.ListN.{get_or}
+use borrow.Author.Tests.{eqb-true, le-leb, lt-ltb}
 use Rattle.rules.specs.declared.Digits.{Digits}
-use Rattle.rules.specs.Base.{all, has_number}
+use Rattle.rules.specs.Base.{all}
 use Rattle.rules.specs.RefusalNumbers.{Got, got, bad, unless, map_g, and_then}
 use Rattle.rules.specs.RangeClass.{reaches}
 use Rattle.rules.specs.Lines.{Rest, Shape, opener, no_content, content, opening, formless, shape_of, has_form}
 use Rattle.rules.specs.Values.{Known, Value, read_kind}
-use Rattle.rules.specs.Rows.{Rule, Act, stay, entry, begin, shut, refuse, or_refuse, inner_of, read_shape, shape_for, fits, not_twice, act_row, act_unknown, act_found, Found, absent, found, find, present, complete}
+use Rattle.rules.specs.Rows.{Rule, Act, stay, entry, begin, shut, refuse, or_refuse, inner_of, read_shape, shape_for, fits, not_twice, act_row, act_unknown, act_found, Found, absent, found, find, complete}
 use Rattle.rules.specs.RecordTable.{rule_at, columns}
 use Rattle.rules.specs.Blocks.{top_table, file_table, range_table, base_table, elec_table, sym_table, later_table, drawing_table, defines_table, symbol_table, element_table}
 use Rattle.rules.specs.Figures.{layer_table, figure_table, point_table, text_table, placed_table, wire_table}
-use Rattle.rules.proofs.Chains.{and_left, and_right, or_true, by_cond, all_weaken}
-use Rattle.rules.proofs.Rows.{found-row, row-all, row_at, reaches-none}
+use Rattle.rules.proofs.Chains.{or_true, by_cond, all_weaken}
+use Rattle.rules.proofs.Rows.{found-row, row-all, row_at}
 use Rattle.tables.specs.Tables.{table_of}
 use Rattle.tables.specs.Rows.{rule_of, for_line, found_for_line}
 use Rattle.tables.specs.declared.Row.{Row}
@@ -182,11 +180,6 @@ module _ (t : List Rule) (key : List ℕ) (row : Row) (same_row : found_for_line
           let h₃ = subst (λ (b : Act). Acts (λ _. for_line r) dump u b u₁ a) (line_row k d (get_or full j false) j r c) h₂ in
           let w : rule_at t j ≡ r = row_at (found-row key t j r q).0 _ in
           record { eq = h₃.eq; entered = own-entered (rule_at t) (for_line r) dump j u u₁ (act_row k d (get_or full j false) j r c) (own_row j k d (get_or full j false) r c) (ap (λ (x : Rule). put_line x dump) w) h₃.entered }
-
-pub no-mark : (full : List Bool) (i : ℕ) → length full ≤ i → false ≡ get_or full i false
-no-mark [] i h = refl
-no-mark (b ∷ full) zero h = absurd (omega arith)
-no-mark (b ∷ full) (suc i) h = no-mark full i (omega arith)
 
 -- ── room for the rows of a table ──
 pub room-more : (dump m n : ℕ) (t : List Rule) → m ≤ n → all (roomy dump m) t ≡ true → all (roomy dump n) t ≡ true
