@@ -13,6 +13,3 @@ returns-then-s-i-eq-CR c = (omega (arith, c.loop-i.invariant.1, ap length (up_to
 
 pub loop-i-preserved : goal.loop-i-preserved
 loop-i-preserved c = (omega arith, omega (arith, c.loop-i.invariant.1, ap length (up_to_miss 13 c.args.s.now c.loop-i.i c.loop-i-test.true c.if-s-i-eq-CR.false)))
-
-pub returns : goal.returns
-returns c = omega (arith, c.loop-i.invariant.1, ap length (up_to-end 13 c.args.s.now c.loop-i.i c.loop-i-test.false))

@@ -2,9 +2,6 @@ use native.Mathlib.Omega.{arith}
 use Rattle.lines.proofs.SoundEnds as laws
 use Rattle.lines.proofs.ends.skip_eights.Goals as goal
 
-pub loop-i-init : goal.loop-i-init
-loop-i-init c = laws.no-end_yet c.args.s.now c.args.from c.requires
-
 pub loop-i-preserved : goal.loop-i-preserved
 loop-i-preserved c =
     let inv = c.loop-i.invariant in

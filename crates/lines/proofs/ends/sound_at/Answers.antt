@@ -9,8 +9,3 @@ use Rattle.lines.proofs.ends.sound_at.Goals as goal
 
 pub returns-then-s-from : goal.returns-then-s-from
 returns-then-s-from c = sym (laws.part_none c.args.s.now c.args.place c.args.size c.if-s-from.true)
-
-pub returns : goal.returns
-returns c =
-    let p = laws.part-most c.args.s.now c.args.place c.args.size (omega arith) in
-    c.sound_lines.ensures ∙ ap (λ k. is_some (lines_of (take (k - c.args.place) (drop c.args.place c.args.s.now)))) c.min-to.ensures ∙ ap (λ t. is_some (lines_of t)) p

@@ -8,9 +8,6 @@ use Rattle.lines.proofs.SoundEnds as laws
 use Rattle.lines.proofs.ends.sound_lines.Goals as goal
 use Rattle.lines.proofs.ends.sound_lines.Goals.{then-e-i-gt-MOST_IN_LINE-via-then-e-i-gt-MOST_IN_LINE, then-e-i-gt-MOST_IN_LINE-via-else-e-i-gt-MOST_IN_LINE+then-not-lf_at}
 
-pub loop-e-init : goal.loop-e-init
-loop-e-init c = (omega arith, refl)
-
 pub returns-then-s-e-ne-CR : goal.returns-then-s-e-ne-CR
 returns-then-s-e-ne-CR c =
     let e = c.in-Some.ensures in
@@ -26,12 +23,6 @@ returns-then-e-i-gt-MOST_IN_LINE c =
           let f : w.lf_at.result ≡ false = search rules in
           laws.sound-unended c.args.s.now c.loop-e.i c.in-Some.e e.0 e.1 cr (sym w.lf_at.ensures ∙ f)
     ])
-
-pub overflow_add-i : goal.overflow_add-i
-overflow_add-i c = let l : c.lf_at.result ≡ true = search rules in omega (arith, laws.lf-inside c.args.s.now (c.in-Some.e + 1) (sym c.lf_at.ensures ∙ l))
-
-pub loop-e-smaller : goal.loop-e-smaller
-loop-e-smaller c = let e = c.in-Some.ensures in omega (arith, e.0)
 
 pub loop-e-preserved : goal.loop-e-preserved
 loop-e-preserved c =

@@ -22,13 +22,6 @@ returns-then-body-from c = sym (laws.look-behind c.args.volume c.args.line c.arg
 pub returns-in_err-to : goal.returns-in_err-to
 returns-in_err-to c = c.from_residual.ensures ∙ sym (laws.look-ends c.args.volume c.args.line c.args.base c.args.at c.args.body.now (omega arith) c.if-at-base.false (omega arith) (c.args.at - c.args.base) refl c.in_err-to.ensures)
 
-pub line_form-form-requires : goal.line_form-form-requires
-line_form-form-requires c =
-    let to = c.in_ok-to.ensures in
-    let part = drop (c.args.at - c.args.base) c.args.body.now in
-    let long = length-drop (c.args.at - c.args.base) c.args.body.now in
-    omega (arith, to.0, to.1, length-take-le (c.in_ok-to.to - (c.args.at - c.args.base)) part (omega (arith, to.0, to.1, long)))
-
 pub returns : goal.returns
 returns c =
     let to = c.in_ok-to.ensures in

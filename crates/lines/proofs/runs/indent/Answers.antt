@@ -2,12 +2,6 @@ use native.Mathlib.Omega.{arith}
 use Rattle.lines.proofs.LineLook as laws
 use Rattle.lines.proofs.runs.indent.Goals as goal
 
-pub loop-n-init : goal.loop-n-init
-loop-n-init c = laws.blanks-start c.args.s.now
-
-pub blank_at-requires : goal.blank_at-requires
-blank_at-requires c = c.loop-n.invariant.high
-
 pub overflow_add-i : goal.overflow_add-i
 overflow_add-i c = let n = c.in-Some.ensures in omega (arith, n.1, laws.blanks-le c.args.s.now c.loop-n.i c.loop-n.invariant)
 

@@ -20,15 +20,6 @@ returns-then-s-lt-HEAD_BYTES c =
           sym (laws.head-is c.args.s.now w.if-s-lt-HEAD_BYTES.false ∙ rw (sym w.starts_with.ensures.value ∙ m, sym w.good_name.ensures ∙ g))
     ]
 
-pub overflow_mul-n : goal.overflow_mul-n
-overflow_mul-n c = omega (arith, c.type_inv.s 10)
-
-pub overflow_add-n : goal.overflow_add-n
-overflow_add-n c = omega (arith, c.type_inv.s 10, c.type_inv.s 11)
-
-pub overflow_cast-n-3 : goal.overflow_cast-n-3
-overflow_cast-n-3 c = omega (arith, c.type_inv.s 10, c.type_inv.s 11)
-
 pub returns-then-s-n : goal.returns-then-s-n
 returns-then-s-n c =
     let m : c.starts_with.result ≡ true = search rules in

@@ -17,9 +17,6 @@ returns-then-is_empty c =
 pub shared_ref_as_front-names_differ : goal.shared_ref_as_front-names_differ
 shared_ref_as_front-names_differ c = let t = laws.layout-told c.args.s.now c.walk-l.result c.walk-l.ensures in omega (arith, t.0, t.1)
 
-pub slice_bounds-names_differ-end : goal.slice_bounds-names_differ-end
-slice_bounds-names_differ-end c = let t = laws.layout-told c.args.s.now c.walk-l.result c.walk-l.ensures in sym (length-take-le c.walk-l.result.count c.walk-l.result.places (omega (arith, t.0, t.1)))
-
 pub names_differ-requires : goal.names_differ-requires
 names_differ-requires c = (laws.layout-told c.args.s.now c.walk-l.result c.walk-l.ensures).2
 

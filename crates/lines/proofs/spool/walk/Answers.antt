@@ -13,9 +13,6 @@ returns-then-count-eq-MOST_VOLUMES c = c.no_layout.ensures ∙ sym (laws.walk-fu
 pub returns-in_default : goal.returns-in_default
 returns-in_default c = c.no_layout-in_default.ensures ∙ sym (laws.walk-bad _ _ _ _ _ c.loop-at.invariant c.loop-at-test.true c.if-count-eq-MOST_VOLUMES.false (sym (ap head_in (laws.tail-is c.args.s.now c.loop-at.at)) ∙ sym c.head_of.ensures ∙ c.in_default.is))
 
-pub loop-at-smaller : goal.loop-at-smaller
-loop-at-smaller c = omega (arith, c.loop-at-test.true)
-
 pub loop-at-preserved : goal.loop-at-preserved
 loop-at-preserved c = laws.walk_more _ _ _ _ _ c.loop-at.invariant _ c.loop-at-test.true c.if-count-eq-MOST_VOLUMES.false (sym (ap head_in (laws.tail-is c.args.s.now c.loop-at.at)) ∙ sym c.head_of.ensures ∙ c.in-Some.is)
 
