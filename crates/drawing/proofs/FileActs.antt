@@ -26,22 +26,13 @@ use Rattle.account.specs.declared.Step.{Step}
 use Rattle.account.specs.declared.Step.TheVariants as S
 use Rattle.account.specs.Account.{at_block}
 use Rattle.account.specs.Numbering.{header_length}
-use Rattle.account.specs.FileLines.{file_table_of, marks_from, marks_to, part_marks, Header, kept, kept_wires, kept_in, closed_file, shut_file, Shut, FileClosed, FileReady, FileLine}
+use Rattle.account.specs.FileLines.{file_table_of, marks_from, marks_to, part_marks, kept_in, closed_file, shut_file, Shut, FileClosed, FileReady, FileLine}
 use Rattle.account.proofs.RowsTaken.{entry-taken, begin-taken}
 use Rattle.account.proofs.FileParts.{marks-long, mark-inside}
 
 -- any table's rows have room in the header
 pub header-room : (h : List ℤ) (tb : ℕ) → length h ≡ header_length → all (roomy 64 (length h)) (table_of tb) ≡ true
 header-room h tb l = room-more 64 69 (length h) (table_of tb) (omega (arith, l)) (room-file tb)
-
--- what is kept, by the part
-pub kept-own : (first : Bool) (p j : ℕ) (h : List ℤ) → p ≡ 0 → kept first j h ≡ kept_in first p j h
-kept-own first zero j h e = refl
-kept-own first (suc p) j h e = absurd (omega (arith, e))
-
-pub kept-inner : (first : Bool) (p j : ℕ) (h : List ℤ) → (p ≡ 0 → ⊥) → kept_wires p j h ≡ kept_in first p j h
-kept-inner first zero j h n = absurd (n refl)
-kept-inner first (suc p) j h n = refl
 
 shut-own : (p : ℕ) (whole : Step) (n : Now) → p ≡ 0 → shut_file p whole n ≡ whole
 shut-own zero whole n e = refl
@@ -111,9 +102,6 @@ module _ (k : Known) (f : Form) (s following : List ℕ) (first : Bool) (n : Now
   module _ (h₁ : List ℤ) where
     pub line-stay : Took (rule_at rows) 64 h₀ done h₁ N.Stay → Line tally₀ m₀ h₁ (S.Go n) done
     line-stay t = subst (Line tally₀ m₀ h₁ (S.Go n)) (sym t.0) (record { answer = refl; tally = refl; marks = refl; header = t.1 })
-
-    pub shut-header : Took (rule_at rows) 64 h₀ done h₁ N.Shut → Header h₁
-    shut-header t = subst Header (sym t.1) y.header
 
     pub line-shut : (tally₁ : List ℕ) (r : Step) → Took (rule_at rows) 64 h₀ done h₁ N.Shut → n.part ≡ 0 → FileClosed s following first n h₁ tally₀ tally₁ r → Line tally₁ m₀ h₁ r done
     line-shut tally₁ r t p c =

@@ -2,6 +2,5 @@ pub mod FileCloses
 pub mod FileActs
 pub mod TopSteps
 pub mod DrawingSteps
-pub mod SymbolNames
 pub mod SymbolSteps
 pub mod Unique

@@ -1,7 +1,7 @@
 -- The lines of SYMBOL_DEFINE and of a symbol, by what the code was told of the line.
 use Rattle.std.specs.Prelude.{Option, Some, None}
 use Prim.Native.Nat.{ℕ, zero, suc, ◌<◌, ◌≤◌}
-use mathlib.Core.Bool.{Bool, true, false, cond, ◌&&◌, not}
+use mathlib.Core.Bool.{Bool, true, false, cond, ◌&&◌}
 use mathlib.Core.List.{List, [], ◌∷◌}
 use mathlib.Core.Path.{◌≡◌, refl, sym, ◌∙◌, ap, subst}
 use native.Mathlib.Omega.{arith}
@@ -9,9 +9,8 @@ use lib.Dec.{leb}
 use lib.IntN.{ℤ, pos}
 use lib.ListN.{drop, length, get_or, set, length-set, take, length-take}
 use lib.Seq.{get_or-set_same, get_or-set_other}
-use borrow.Author.Tests.{ne_eqb, not-true, not-false, lt-ltb, leb-true}
+use borrow.Author.Tests.{lt-ltb, leb-true}
 use Rattle.rules.specs.declared.Digits.{Digits}
-use Rattle.rules.specs.declared.Span.{Span}
 use Rattle.rules.specs.Base.{all}
 use Rattle.rules.specs.RefusalNumbers.{got, bad, unless}
 use Rattle.rules.specs.Lines.{Rest, brace, equals, Form, ignored, wrong, close, eof, keyed, Shape, opener, no_content, content, opening, formless, has_form, stem, by_stem, shape_of}
@@ -31,7 +30,7 @@ use Rattle.account.specs.declared.Step.{Step}
 use Rattle.account.specs.declared.Step.TheVariants as S
 use Rattle.account.specs.declared.Where.{Where}
 use Rattle.account.specs.Account.{at_block}
-use Rattle.account.specs.SymbolLines.{non_in, non_read, symbol_opened, open_symbol, defined_in, close_defines, SymbolBegun, Untouched, OpenedOr, DefinesLine, name_of, is_named, ContentPlaced, is_new, symbol_entry, symbol_part, symbol_put, SymbolLine}
+use Rattle.account.specs.SymbolLines.{non_in, non_read, open_symbol, close_defines, SymbolBegun, Untouched, OpenedOr, DefinesLine, is_named, ContentPlaced, symbol_entry, symbol_put, SymbolLine}
 use Rattle.account.proofs.RowsTaken.{entry-taken, begin-taken}
 
 -- ── the line's act, from the answer ──
@@ -65,21 +64,9 @@ module _ (n : Now) (count : ℕ) where
   abbrev closed : Bool → Step
   closed b = cond b (S.Go (at_block n 0 3)) (S.Stop 8)
 
-  pub close-none : (b : Bool) → b ≡ defined_in n count → not b ≡ true → S.Stop 8 ≡ close_defines n count
-  close-none b e h = ap closed (sym (not-true b h) ∙ e)
-
-  pub close-some : (b : Bool) (m : Now) → b ≡ defined_in n count → not b ≡ false → m ≡ at_block n 0 3 → S.Go m ≡ close_defines n count
-  close-some b m e h q = ap S.Go q ∙ ap closed (sym (not-false b h) ∙ e)
-
   -- what the opening of a symbol says, where it did P
   abbrev Opening : Type 0 → Step → Type 0
   Opening P r = (r ≡ open_symbol n count) × OpenedOr (non_in n) P
-
-  pub open-non : (P : Type 0) → (n.part ≡ 0 → ⊥) → Opening P (S.Stop 6)
-  open-non P h = rw (ne_eqb n.part 0 h) (refl, tt)
-
-  pub open-go : (P : Type 0) (m : Now) → n.part ≡ 0 → m ≡ symbol_opened n count → P → Opening P (S.Go m)
-  open-go P m h q p = rw h (ap S.Go q, p)
 
 module _ (n : Now) (count : ℕ) (at : Where) (m₀ m₁ : List Bool) (rec₀ rec₁ : List ℤ) (a : Act) (y : Next) (e : y ≡ next_of a) where
   as-defines : (b : Act) (r : Step) → a ≡ b → DefinesLine b n count at m₀ m₁ rec₀ rec₁ r → DefinesLine a n count at m₀ m₁ rec₀ rec₁ r
@@ -115,39 +102,15 @@ four-taken m h = omega (arith, length-take 4 m)
 pub seven_in_lem : (n : ℕ) → n ≡ 32 → 7 ≤ n
 seven_in_lem n h = omega arith
 
-module _ (s symbols : List ℕ) (n : Now) (j : ℕ) (rec : List ℤ) (p : Span) (named : p ≡ name_of rec) (b : Bool) (new : b ≡ is_new s symbols p) (first : j ≡ 0) where
-  known-new : is_new s symbols (name_of rec) ≡ b
-  known-new = ap (is_new s symbols) (sym named) ∙ sym new
-
-  pub entry_old : not b ≡ true → S.Stop 15 ≡ symbol_entry s symbols n j rec
-  entry_old h = rw (first, known-new, not-true b h)
-
-  pub entry_new : not b ≡ false → S.Go n ≡ symbol_entry s symbols n j rec
-  entry_new h = rw (first, known-new, not-false b h)
-
 module _ (s symbols : List ℕ) (n : Now) (m₀ m₁ : List Bool) (rec₀ rec₁ : List ℤ) (a : Act) (y : Next) (acts : Acts (rule_at (table_of 9)) 0 rec₀ a rec₁ y) where
   as-symbol : (b : Act) (r : Step) → a ≡ b → (Entered (rule_at (table_of 9)) 0 rec₀ b rec₁ → SymbolLine b s symbols n m₀ m₁ rec₀ rec₁ r) → SymbolLine a s symbols n m₀ m₁ rec₀ rec₁ r
   as-symbol b r q d =
       subst (λ (x : Act). SymbolLine x s symbols n m₀ m₁ rec₀ rec₁ r) (sym q) (d (subst (λ (x : Act). Entered (rule_at (table_of 9)) 0 rec₀ x rec₁) q acts.entered))
 
-  pub symbol-stay : y ≡ N.Stay → m₁ ≡ m₀ → SymbolLine a s symbols n m₀ m₁ rec₀ rec₁ (S.Go n)
-  symbol-stay h u = as-symbol stay (S.Go n) (told a N.Stay y acts.eq h) (λ p. record { answer = refl; marks = u; put = p })
-
   pub symbol-entry : (j : ℕ) (r : Step) → y ≡ N.Entry j → r ≡ symbol_entry s symbols n j rec₁ → m₁ ≡ set m₀ j true → SymbolLine a s symbols n m₀ m₁ rec₀ rec₁ r
   symbol-entry j r h q u =
       let (v, w) = told a (N.Entry j) y acts.eq h in
       as-symbol (entry j v) r w (λ p. record { answer = q ∙ ap (symbol_entry s symbols n j) p; marks = u; put = p })
-
-  pub symbol-begin : (x : Inner) (r : Step) → y ≡ N.Begin x → r ≡ S.Go (symbol_part n x.block) → m₁ ≡ set m₀ x.row true → SymbolLine a s symbols n m₀ m₁ rec₀ rec₁ r
-  symbol-begin x r h q u =
-      let (v, w) = told a (N.Begin x) y acts.eq h in
-      as-symbol (begin x.block x.row v) r w (λ p. record { answer = q; marks = u; put = p })
-
-  pub symbol-shut : (r : Step) → y ≡ N.Shut → r ≡ S.Go (at_block n 4 0) → m₁ ≡ m₀ → SymbolLine a s symbols n m₀ m₁ rec₀ rec₁ r
-  symbol-shut r h q u = as-symbol shut r (told a N.Shut y acts.eq h) (λ p. record { answer = q; marks = u; put = p })
-
-  pub symbol-refuse : (k : ℕ) → y ≡ N.Refuse k → SymbolLine a s symbols n m₀ m₁ rec₀ rec₁ (S.Stop k)
-  symbol-refuse k h = as-symbol (refuse k) (S.Stop k) (told a (N.Refuse k) y acts.eq h) (λ p. record { answer = refl; marks = tt; put = p })
 
 -- ── the line of a symbol's name ──
 -- its value is what stands behind `=`, with its place

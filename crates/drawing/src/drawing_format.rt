@@ -75,9 +75,7 @@ const LAYER_TEXT: u8 = 12;
 fn layer_name(s: &[u8], rest: Rest) -> Result<Span, u8>
     ensures { result ≡ name_of (layer_value [] (free_shape_of (rest_in s.now rest))) }
 {
-    let shape = shape_for(s, true, rest);
-    match shape {
-        Shape::Opener => Err(5),
+    match shape_for(s, true, rest) {
         Shape::NoContent => Ok(Span { at: 0, len: 0 }),
         Shape::Content(c) => {
             let bytes = part(s, c);
@@ -90,8 +88,7 @@ fn layer_name(s: &[u8], rest: Rest) -> Result<Span, u8>
                 len: bytes.len() as u32,
             })
         }
-        Shape::Opening(_) => Err(5),
-        Shape::Formless => Err(5),
+        Shape::Opener | Shape::Opening(_) | Shape::Formless => Err(5),
     }
 }
 
@@ -100,11 +97,7 @@ fn layer_digits(id: &[u8]) -> u64
     requires { is_layer_id id.now ≡ true }
     ensures { result ≡ value (drop 2 id.now) }
 {
-    let read = fixed(&id[2..], 3);
-    match read {
-        Some(n) => n,
-        None => 0,
-    }
+    fixed(&id[2..], 3).unwrap_or(0)
 }
 
 fn layer_taken(here: Now) -> Now
@@ -112,13 +105,8 @@ fn layer_taken(here: Now) -> Now
     ensures { result ≡ layer_taken here }
 {
     Now {
-        block: here.block,
-        part: here.part,
-        layered: here.layered,
-        owner: here.owner,
         records: here.records + 1,
-        figures: here.figures,
-        points: here.points,
+        ..here
     }
 }
 
@@ -135,10 +123,10 @@ fn put_layer(number: u32, id: &[u8], name: Span, at: Where, rec: &mut [i64])
     ensures { rec.new ≡ layer_put number at id.now (pos name.at ∷ pos name.len ∷ []) rec.old }
 {
     head(rec, 0, KIND_LAYER, number, at.volume, at.line);
-    rec[PLACE_LETTER] = id[0] as i64;
+    rec[PLACE_LETTER] = i64::from(id[0]);
     rec[PLACE_NUMBER] = layer_digits(id) as i64;
-    rec[PLACE_LAYER_NAME] = name.at as i64;
-    rec[PLACE_LAYER_NAME_LENGTH] = name.len as i64;
+    rec[PLACE_LAYER_NAME] = i64::from(name.at);
+    rec[PLACE_LAYER_NAME_LENGTH] = i64::from(name.len);
 }
 
 // The length of a layer's id, five bytes, as it stands in a name's number: 65,536 times, above the place.
@@ -181,21 +169,18 @@ fn layer_line(
     if !is_layer_id(part(s, key)) {
         return Step::Stop(6);
     }
-    let read = layer_name(s, rest);
-    match read {
-        Err(n) => Step::Stop(n),
-        Ok(name) => {
-            let count = tally[TALLY_LAYERS] as usize;
-            if MOST_LAYERS <= count {
-                return Step::Stop(11);
-            }
-            let found = index_of(s, &layers[..count], part(s, key));
-            match found {
-                Some(_) => Step::Stop(14),
-                None => Step::Go(take_layer(s, tally, layers, here, key, name, at, rec)),
-            }
-        }
+    let name = match layer_name(s, rest) {
+        Ok(name) => name,
+        Err(n) => return Step::Stop(n),
+    };
+    let count = tally[TALLY_LAYERS] as usize;
+    if MOST_LAYERS <= count {
+        return Step::Stop(11);
     }
+    if index_of(s, &layers[..count], part(s, key)).is_some() {
+        return Step::Stop(14);
+    }
+    Step::Go(take_layer(s, tally, layers, here, key, name, at, rec))
 }
 
 // A line in `layer_name`.
@@ -215,14 +200,9 @@ pub fn on_layer_names(
         LineForm::Ignored => Step::Go(here),
         LineForm::Close => Step::Go(at_block(here, BLOCK_DRAWING, 0)),
         LineForm::Eof => Step::Stop(9),
-        LineForm::Opens(o) => {
-            let key = o.key;
-            layer_line(s, tally, layers, here, key, Rest::Brace, at, rec)
-        }
+        LineForm::Opens(o) => layer_line(s, tally, layers, here, o.key, Rest::Brace, at, rec),
         LineForm::Equals(q) => {
-            let key = q.key;
-            let rest = q.rest;
-            layer_line(s, tally, layers, here, key, Rest::Equals(rest), at, rec)
+            layer_line(s, tally, layers, here, q.key, Rest::Equals(q.rest), at, rec)
         }
         LineForm::Refused(r) => Step::Stop(r.number),
     }

@@ -8,7 +8,7 @@ ghost use Rattle.rules.specs.Rows.{act};
 ghost use Rattle.rules.specs.Blocks.{around};
 ghost use Rattle.tables.specs.Tables.{table_of};
 ghost use Rattle.entries.specs.Names.{known_in};
-ghost use Rattle.account.specs.FileLines.{file_table_of, marks_from, marks_to, part_marks, Header, kept_name, kept_first, kept_later, kept, kept_wires, kept_in, dated_as, ranges_tally, set_tally, wires_tally, here_tally, first_tally, later_tally, FileClosed, FileReady, FileLine};
+ghost use Rattle.account.specs.FileLines.{file_table_of, marks_from, marks_to, part_marks, Header, kept_name, kept_in, dated_as, ranges_tally, set_tally, wires_tally, here_tally, first_tally, later_tally, FileClosed, FileReady, FileLine};
 ghost use Rattle.account.specs.Numbering.{tally_length, header_length};
 
 use account::{
@@ -34,49 +34,16 @@ const INNER_RANGE: u8 = 1;
 const INNER_BASE: u8 = 2;
 
 // Where the marks of a part's rows begin and end: FILE_FORMAT's own, `range`, `base`, `elec`, `sym`.
-fn marks_from(part: u8) -> usize
-    ensures { result ≡ marks_from part }
+fn marks_of(first: bool, part: u8) -> (usize, usize)
+    ensures { (result.0 ≡ marks_from part) × (result.1 ≡ marks_to first part) }
 {
-    if part == INNER_NONE {
-        return 0;
+    match part {
+        INNER_NONE => (0, if first { ROWS_FILE } else { ROWS_LATER }),
+        INNER_RANGE => (MARKS_RANGE, MARKS_BASE),
+        INNER_BASE => (MARKS_BASE, MARKS_ELEC),
+        INNER_ELEC => (MARKS_ELEC, MARKS_SYM),
+        _ => (MARKS_SYM, MOST_ROWS),
     }
-    if part == INNER_RANGE {
-        return MARKS_RANGE;
-    }
-    if part == INNER_BASE {
-        return MARKS_BASE;
-    }
-    if part == INNER_ELEC {
-        return MARKS_ELEC;
-    }
-    MARKS_SYM
-}
-
-fn own_marks(first: bool) -> usize
-    ensures { result ≡ marks_to first 0 }
-{
-    if first {
-        return ROWS_FILE;
-    }
-    ROWS_LATER
-}
-
-fn marks_to(first: bool, part: u8) -> usize
-    ensures { result ≡ marks_to first part }
-{
-    if part == INNER_NONE {
-        return own_marks(first);
-    }
-    if part == INNER_RANGE {
-        return MARKS_BASE;
-    }
-    if part == INNER_BASE {
-        return MARKS_ELEC;
-    }
-    if part == INNER_ELEC {
-        return MARKS_SYM;
-    }
-    MOST_ROWS
 }
 
 fn file_table(first: bool, part: u8) -> u8
@@ -84,9 +51,10 @@ fn file_table(first: bool, part: u8) -> u8
     ensures { result ≡ file_table_of first part }
 {
     if first {
-        return part + TABLE_FILE;
+        part + TABLE_FILE
+    } else {
+        TABLE_LATER
     }
-    TABLE_LATER
 }
 
 // The part around an inner part: FILE_FORMAT around `range`, `range` around the others.
@@ -95,9 +63,10 @@ fn around(part: u8) -> u8
     ensures { result ≡ around part }
 {
     if part == INNER_RANGE {
-        return INNER_NONE;
+        INNER_NONE
+    } else {
+        INNER_RANGE
     }
-    INNER_RANGE
 }
 
 // What a row without a place in the record left behind it is kept: next_file, and in a later volume date and time.
@@ -111,85 +80,26 @@ fn keep_name(header: &mut [i64])
     header[HEADER_NEXT_FILE_LENGTH] = len;
 }
 
-fn keep_first(row: u8, header: &mut [i64])
-    requires { length header.old ≡ header_length }
-    ensures { header.new ≡ kept_first row header.old }
-{
-    if row != ROW_NEXT_FILE {
-        return;
-    }
-    keep_name(header);
-}
-
-fn keep_later(row: u8, header: &mut [i64])
-    requires { length header.old ≡ header_length }
-    ensures { header.new ≡ kept_later row header.old }
-{
-    if row == ROW_LATER_NEXT_FILE {
-        keep_name(header);
-        return;
-    }
-    if row == ROW_LATER_DATE {
-        header[HEADER_LATER_DATE] = header[HEADER_LAST];
-        return;
-    }
-    if row != ROW_LATER_TIME {
-        return;
-    }
-    header[HEADER_LATER_TIME] = header[HEADER_LAST];
-}
-
-fn keep(first: bool, row: u8, header: &mut [i64])
-    requires { length header.old ≡ header_length }
-    ensures { header.new ≡ kept first row header.old }
-{
-    if first {
-        keep_first(row, header);
-        return;
-    }
-    keep_later(row, header);
-}
-
 // Of the inner parts, `elec` has such a row: E_wire.
-fn keep_wires(part: u8, row: u8, header: &mut [i64])
-    requires { length header.old ≡ header_length }
-    ensures { header.new ≡ kept_wires part row header.old }
-{
-    if part != INNER_ELEC {
-        return;
-    }
-    if row != ROW_WIRE_RANGE {
-        return;
-    }
-    header[HEADER_WIRE_RANGE] = header[HEADER_LAST];
-}
-
 fn keep_in(first: bool, part: u8, row: u8, header: &mut [i64])
     requires { length header.old ≡ header_length }
     ensures { header.new ≡ kept_in first part row header.old }
 {
-    if part == INNER_NONE {
-        keep(first, row, header);
-        return;
+    match (part, first, row) {
+        (INNER_NONE, true, ROW_NEXT_FILE) => keep_name(header),
+        (INNER_NONE, false, ROW_LATER_NEXT_FILE) => keep_name(header),
+        (INNER_NONE, false, ROW_LATER_DATE) => header[HEADER_LATER_DATE] = header[HEADER_LAST],
+        (INNER_NONE, false, ROW_LATER_TIME) => header[HEADER_LATER_TIME] = header[HEADER_LAST],
+        (INNER_ELEC, _, ROW_WIRE_RANGE) => header[HEADER_WIRE_RANGE] = header[HEADER_LAST],
+        _ => {}
     }
-    keep_wires(part, row, header);
 }
 
 // "next_file names the next volume (a-z read as A-Z) and is empty in the last"
 fn names(c: &[u8], name: &[u8]) -> bool
     ensures { result ≡ same (map capital c.now) name.now }
 {
-    if c.len() != name.len() {
-        return false;
-    }
-    let mut i = 0;
-    while i < c.len() {
-        if capital(c[i]) != name[i] {
-            return false;
-        }
-        i += 1;
-    }
-    true
+    c.len() == name.len() && c.iter().zip(name).all(|(a, b)| capital(*a) == *b)
 }
 
 // What the first volume's header says of the set: the ranges; date, time and all_ele; E_wire.
@@ -249,10 +159,8 @@ fn dated(header: &[i64], tally: &[u32]) -> bool
     requires { Header header.now × (length tally.now ≡ tally_length) }
     ensures { result ≡ dated_as tally.now header.now }
 {
-    if header[HEADER_LATER_DATE] as u32 != tally[TALLY_DATE] {
-        return false;
-    }
-    header[HEADER_LATER_TIME] as u32 == tally[TALLY_TIME]
+    header[HEADER_LATER_DATE] as u32 == tally[TALLY_DATE]
+        && header[HEADER_LATER_TIME] as u32 == tally[TALLY_TIME]
 }
 
 // "16: volume chain, date or time unlike volume 1's, at FILE_FORMAT's close"
@@ -301,8 +209,7 @@ pub fn on_file(
     requires { (length s.now ≤ 61440) × (length symbols.now ≤ 65536) × (length layers.now ≤ 65536) × FileReady first here tally.old marks.old header.old }
     ensures { FileLine (act (known_in s.now symbols.now layers.now) (table_of (file_table_of first here.part)) (digits 0 0) (part_marks first here.part marks.old) (form_in s.now form)) s.now following.now first here tally.old tally.new marks.old marks.new header.old header.new result }
 {
-    let from = marks_from(here.part);
-    let to = marks_to(first, here.part);
+    let (from, to) = marks_of(first, here.part);
     let next = act(
         file_table(first, here.part),
         s,

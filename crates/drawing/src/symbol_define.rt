@@ -70,10 +70,7 @@ fn open_symbol(here: Now, count: usize, at: Where, marks: &mut [bool], rec: &mut
 fn defined(here: Now, count: usize) -> bool
     ensures { result ≡ defined_in here count }
 {
-    if here.part != 0 {
-        return true;
-    }
-    count != 0
+    here.part != 0 || count != 0
 }
 
 // Neither is 8.
@@ -140,10 +137,7 @@ fn is_new(s: &[u8], symbols: &[u32], name: Span) -> bool
     requires { length symbols.now ≤ 65536 }
     ensures { result ≡ is_new s.now symbols.now name }
 {
-    match index_of(s, symbols, part(s, name)) {
-        Some(_) => false,
-        None => true,
-    }
+    index_of(s, symbols, part(s, name)).is_none()
 }
 
 fn symbol_entry(
@@ -158,10 +152,8 @@ fn symbol_entry(
     ensures { (result ≡ symbol_entry s.now symbols.now here row rec.now) × (marks.new ≡ set marks.old row true) }
 {
     marks[row as usize] = true;
-    if row == ROW_NAME {
-        if !is_new(s, symbols, name_in(rec)) {
-            return Step::Stop(15);
-        }
+    if row == ROW_NAME && !is_new(s, symbols, name_in(rec)) {
+        return Step::Stop(15);
     }
     Step::Go(here)
 }
@@ -170,25 +162,18 @@ fn symbol_entry(
 fn symbol_part(here: Now, block: u8) -> Now
     ensures { result ≡ symbol_part here block }
 {
-    if block == INNER_ELEMENT {
-        return Now {
-            block: BLOCK_FIGURES,
-            part: 0,
-            layered: false,
-            owner: here.owner,
-            records: here.records,
-            figures: 0,
-            points: 0,
-        };
-    }
+    let (block, figures) = if block == INNER_ELEMENT {
+        (BLOCK_FIGURES, 0)
+    } else {
+        (BLOCK_HIDE, here.figures)
+    };
     Now {
-        block: BLOCK_HIDE,
+        block,
         part: 0,
         layered: false,
-        owner: here.owner,
-        records: here.records,
-        figures: here.figures,
+        figures,
         points: 0,
+        ..here
     }
 }
 
@@ -237,5 +222,5 @@ pub fn keep_name(tally: &mut [u32], symbols: &mut [u32], rec: &[i64])
     let name = name_in(rec);
     let i = tally[TALLY_SYMBOLS] as usize;
     symbols[i] = name.at + 65536 * name.len;
-    tally[TALLY_SYMBOLS] = tally[TALLY_SYMBOLS] + 1;
+    tally[TALLY_SYMBOLS] += 1;
 }

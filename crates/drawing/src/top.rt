@@ -24,10 +24,7 @@ fn at_eof(here: Now, at: Where, tally: &[u32], used_all: &[bool]) -> Step
     requires { (length tally.now ≡ tally_length) × (layers_of tally.now ≤ length used_all.now) }
     ensures { result ≡ step_of (eof_now here at tally.now used_all.now) }
 {
-    if here.part != TURN_EOF {
-        return Step::Stop(9);
-    }
-    if !at.ends {
+    if here.part != TURN_EOF || !at.ends {
         return Step::Stop(9);
     }
     let count = tally[TALLY_LAYERS] as usize;
@@ -46,7 +43,7 @@ fn records_taken(here: Now, block: u8, more: usize) -> Now
     ensures { result ≡ records_taken here block more }
 {
     Now {
-        block: block,
+        block,
         part: 0,
         layered: false,
         owner: 0,
@@ -65,9 +62,9 @@ fn begin_header(first: bool, at: Where, header: &mut [i64])
     if first {
         head(header, 0, KIND_HEADER, 0, at.volume, at.line);
         head(header, WIDTH, KIND_VOLUME, 0, at.volume, at.line);
-        return;
+    } else {
+        head(header, 0, KIND_VOLUME, 0, at.volume, at.line);
     }
-    head(header, 0, KIND_VOLUME, 0, at.volume, at.line);
 }
 
 // FILE_FORMAT takes two records in the first volume, the header's and the volume's, and one in others.
@@ -77,10 +74,7 @@ fn open_file(here: Now, first: bool, at: Where, marks: &mut [bool], header: &mut
 {
     unmark(marks);
     begin_header(first, at, header);
-    if first {
-        return records_taken(here, BLOCK_FILE, 2);
-    }
-    records_taken(here, BLOCK_FILE, 1)
+    records_taken(here, BLOCK_FILE, if first { 2 } else { 1 })
 }
 
 fn open_drawing(here: Now, at: Where, marks: &mut [bool], rec: &mut [i64]) -> Now
@@ -109,17 +103,15 @@ fn open_block(
     if block != here.part {
         return Step::Stop(9);
     }
-    if block == TURN_FILE {
-        return Step::Go(open_file(here, first, at, marks, header));
-    }
-    if block == TURN_DRAWING {
-        return Step::Go(open_drawing(here, at, marks, rec));
-    }
-    if block == TURN_DEFINES {
-        return Step::Go(at_block(here, BLOCK_DEFINES, 0));
-    }
-    unmark(used);
-    Step::Go(at_block(here, BLOCK_ELEMENTS, 0))
+    Step::Go(match block {
+        TURN_FILE => open_file(here, first, at, marks, header),
+        TURN_DRAWING => open_drawing(here, at, marks, rec),
+        TURN_DEFINES => at_block(here, BLOCK_DEFINES, 0),
+        _ => {
+            unmark(used);
+            at_block(here, BLOCK_ELEMENTS, 0)
+        }
+    })
 }
 
 // A line outside all blocks.
@@ -145,10 +137,7 @@ pub fn on_top(
         LineForm::Ignored => Step::Go(here),
         LineForm::Close => Step::Stop(9),
         LineForm::Eof => at_eof(here, at, tally, used_all),
-        LineForm::Opens(_) => top_key(
-            s, symbols, layers, first, here, form, at, marks, used, header, rec,
-        ),
-        LineForm::Equals(_) => top_key(
+        LineForm::Opens(_) | LineForm::Equals(_) => top_key(
             s, symbols, layers, first, here, form, at, marks, used, header, rec,
         ),
         LineForm::Refused(r) => Step::Stop(r.number),

@@ -1,40 +1,18 @@
-use borrow.Author.Rules.{rules}
-use Prim.Native.Nat.{◌≤◌, ◌-◌}
-use mathlib.Core.List.{map}
-use mathlib.Core.Path.{◌≡◌, refl, sym, ◌∙◌}
-use native.Mathlib.Omega.{arith}
-use lib.ListN.{length, drop}
-use Rattle.rules.specs.Base.{same}
+use mathlib.Core.Path.{sym, ◌∙◌}
+use lib.Dec.{eqb}
+use borrow.Author.Tests.{ne_eqb}
+use Rattle.std.proofs.Common.{rules}
+use Rattle.std.proofs.lemmas.Iterator.{YieldsList-from_slice, YieldsList-from_zip}
+use Rattle.std.proofs.lemmas.Iterator.Search.{all_from_yields_List}
 use Rattle.rules.specs.Values.{capital}
-use Rattle.account.proofs.FileParts.{name-long, name-step, name-not, name-end}
+use Rattle.account.proofs.FileParts.{name-long}
+use Rattle.drawing.proofs.FileCloses.{same_zip}
 use Rattle.drawing.proofs.file_format.names.Goals as goal
 
 pub returns-then-c-name : goal.returns-then-c-name
-returns-then-c-name c = sym (name-long c.args.c.now c.args.name.now c.if-c-name.true)
+returns-then-c-name c =
+    all_from_yields_List (λ p. eqb (capital p.0) p.1) c.all.new.self _ _ c.all.ensures.ran (YieldsList-from_zip (YieldsList-from_slice c.args.c.now (cc)) (YieldsList-from_slice c.args.name.now (cc))) (λ x b q k. search rules)
+    ∙ sym (same_zip c.args.c.now c.args.name.now c.if-c-name.true)
 
-pub loop-i-init : goal.loop-i-init
-loop-i-init c = (omega arith, c.if-c-name.false, refl)
-
-pub bounds-c-i : goal.bounds-c-i
-bounds-c-i c = omega arith
-
-pub capital-requires : goal.capital-requires
-capital-requires c = search rules
-
-pub bounds-name-i : goal.bounds-name-i
-bounds-name-i c = omega arith
-
-pub returns-then-capital-name : goal.returns-then-capital-name
-returns-then-capital-name c = sym (c.loop-i.invariant.2 ∙ name-not _ _ _ _ c.capital.ensures c.loop-i-test.true (omega arith) c.if-capital-name.true)
-
-pub overflow_add-i : goal.overflow_add-i
-overflow_add-i c = omega arith
-
-pub loop-i-smaller : goal.loop-i-smaller
-loop-i-smaller c = omega arith
-
-pub loop-i-preserved : goal.loop-i-preserved
-loop-i-preserved c = (omega arith, c.loop-i.invariant.1, c.loop-i.invariant.2 ∙ name-step _ _ _ _ c.capital.ensures c.loop-i-test.true (omega arith) c.if-capital-name.false)
-
-pub returns : goal.returns
-returns c = sym (c.loop-i.invariant.2 ∙ name-end _ _ _ c.loop-i-test.false (omega arith))
+pub returns-else-c-name : goal.returns-else-c-name
+returns-else-c-name c = ne_eqb _ _ c.if-c-name.false ∙ sym (name-long c.args.c.now c.args.name.now c.if-c-name.false)

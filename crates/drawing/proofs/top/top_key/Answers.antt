@@ -6,56 +6,16 @@ use Rattle.rules.specs.Rows.{shut, entry, refuse}
 use Rattle.entries.proofs.Took.{took}
 use Rattle.account.specs.TopLines.{top_lent}
 use Rattle.drawing.proofs.TopSteps.{top-rows, top-room, digitless, key-stay, key-refused, key-begin}
-use borrow.Author.Rules.{rules}
 use Rattle.drawing.proofs.top.top_key.Goals as goal
-
-pub no_digits-requires : goal.no_digits-requires
-no_digits-requires c = search rules
-
-pub slice_bounds-act-end : goal.slice_bounds-act-end
-slice_bounds-act-end c = search rules
-
-pub slice_bounds-act-end-2 : goal.slice_bounds-act-end-2
-slice_bounds-act-end-2 c = search rules
 
 pub act-next-requires : goal.act-next-requires
 act-next-requires c = (c.requires.0, c.requires.1, c.requires.2, top-rows, top-room)
-
-pub enum_told-1 : goal.enum_told-1
-enum_told-1 c = search rules
-
-pub enum_told-in-Entry : goal.enum_told-in-Entry
-enum_told-in-Entry c = search rules
-
-pub enum_known-next : goal.enum_known-next
-enum_known-next c = search rules
-
-pub open_block-requires : goal.open_block-requires
-open_block-requires c = search rules
-
-pub enum_told-in-Shut : goal.enum_told-in-Shut
-enum_told-in-Shut c = search rules
-
-pub enum_known-next-in-Refuse-1 : goal.enum_known-next-in-Refuse-1
-enum_known-next-in-Refuse-1 c = search rules
 
 pub returns-in-Stay : goal.returns-in-Stay
 returns-in-Stay c = key-stay c.args.first c.args.here c.args.at (top_act (known_in c.args.s.now c.args.symbols.now c.args.layers.now) (form_in c.args.s.now c.args.form)) (top_lent c.args.marks.now c.args.used.now c.args.header.now c.args.rec.now) (digitless (known_in c.args.s.now c.args.symbols.now c.args.layers.now) (form_in c.args.s.now c.args.form) _ _ c.no_digits.ensures (rw c.in-Stay.is at (took _ _ _ _ _ _ c.act-next.ensures)).0)
 
 pub returns-in-Entry : goal.returns-in-Entry
 returns-in-Entry c = let h = (rw c.in-Entry.is at (took _ _ _ _ _ _ c.act-next.ensures)) in key-refused c.args.first c.args.here c.args.at (top_act (known_in c.args.s.now c.args.symbols.now c.args.layers.now) (form_in c.args.s.now c.args.form)) _ 5 (entry _ h.0) (digitless (known_in c.args.s.now c.args.symbols.now c.args.layers.now) (form_in c.args.s.now c.args.form) _ _ c.no_digits.ensures h.1) refl
-
-pub shape_of-marks : goal.shape_of-marks
-shape_of-marks c = search rules
-
-pub shape_of-used : goal.shape_of-used
-shape_of-used c = search rules
-
-pub shape_of-header : goal.shape_of-header
-shape_of-header c = search rules
-
-pub shape_of-rec : goal.shape_of-rec
-shape_of-rec c = search rules
 
 pub returns-in-Begin : goal.returns-in-Begin
 returns-in-Begin c = let h = (rw c.in-Begin.is at (took _ _ _ _ _ _ c.act-next.ensures)) in key-begin c.args.first c.args.here c.args.at (top_act (known_in c.args.s.now c.args.symbols.now c.args.layers.now) (form_in c.args.s.now c.args.form)) c.in-Begin.inner.block c.in-Begin.inner.row h.0 (top_lent c.args.marks.now c.args.used.now c.args.header.now c.args.rec.now) _ _ (digitless (known_in c.args.s.now c.args.symbols.now c.args.layers.now) (form_in c.args.s.now c.args.form) _ _ c.no_digits.ensures h.1) c.open_block.ensures
