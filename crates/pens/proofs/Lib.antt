@@ -2,7 +2,6 @@ pub mod Laying
 pub mod Behind
 pub mod RowsNoted
 pub mod PartsNoted
-pub mod Turning
 pub mod ShownLaws
 pub mod Writers
 pub mod KeyRows

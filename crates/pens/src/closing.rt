@@ -12,7 +12,6 @@ use crate::groups::put_keys;
 use crate::keys::file_table;
 use crate::noted::{put_noted, put_rows};
 use crate::places::{at_block, by_home};
-use crate::swap::exchange;
 use account::{
     BLOCK_CHAIN, BLOCK_DEFINES, BLOCK_DRAWING, BLOCK_ELEMENTS, BLOCK_FIGURES, BLOCK_FILE,
     BLOCK_HIDE, BLOCK_LAYER_NAMES, BLOCK_PLACED, BLOCK_SYMBOL, BLOCK_TEXT, BLOCK_TOP, BLOCK_WIRE,
@@ -26,11 +25,8 @@ fn shut(pen: Pen, block: u8, out: &mut [u8]) -> Result<Pen, NoRoom>
     requires { Safe pen out.old }
     ensures { Kept out.old out.new result × Shuts pen block out.old out.new result }
 {
-    let from = pen.at;
-    match put_plain(b"}", &mut out[from..]) {
-        Ok(n) => Ok(at_block(pen, n, block, 0)),
-        Err(NoRoom) => Err(NoRoom),
-    }
+    let n = put_plain(b"}", &mut out[pen.at..])?;
+    Ok(at_block(pen, n, block, 0))
 }
 
 // The noted rows of a block, and its `}`.
@@ -45,11 +41,8 @@ fn close_rows(
     requires { Safe pen out.old × (noted_base base ≡ true) }
     ensures { Kept out.old out.new result × ShutsRows s.now base pen block notes.now out.old out.new result }
 {
-    let from = pen.at;
-    match put_rows(3, base, base, 0, s, notes, &mut out[from..]) {
-        Ok(n) => shut(at_block(pen, n, block, 0), block, out),
-        Err(NoRoom) => Err(NoRoom),
-    }
+    let n = put_rows(3, base, base, 0, s, notes, &mut out[pen.at..])?;
+    shut(at_block(pen, n, block, 0), block, out)
 }
 
 // The part around an inner part: FILE_FORMAT around `range`, `range` around the others.
@@ -57,10 +50,7 @@ fn around(part: u8) -> u8
     requires { 1 ≤ part }
     ensures { result ≡ around part }
 {
-    if part == 1 {
-        return 0;
-    }
-    1
+    if part == 1 { 0 } else { 1 }
 }
 
 // DRAWING_FORMAT's rows come before `layer_name`, which is written already.
@@ -70,7 +60,7 @@ fn close_drawing(s: &[u8], pen: Pen, notes: &[u32], out: &mut [u8]) -> Result<Pe
 {
     let from = pen.start;
     let middle = pen.at;
-    match put_rows(
+    let n = put_rows(
         1,
         TABLE_DRAWING,
         TABLE_DRAWING,
@@ -78,14 +68,10 @@ fn close_drawing(s: &[u8], pen: Pen, notes: &[u32], out: &mut [u8]) -> Result<Pe
         s,
         notes,
         &mut out[middle..],
-    ) {
-        Err(NoRoom) => Err(NoRoom),
-        Ok(n) => {
-            let to = middle + n;
-            exchange(&mut out[from..to], middle - from);
-            shut(at_block(pen, n, BLOCK_DRAWING, 0), BLOCK_TOP, out)
-        }
-    }
+    )?;
+    let to = middle + n;
+    out[from..to].rotate_left(middle - from);
+    shut(at_block(pen, n, BLOCK_DRAWING, 0), BLOCK_TOP, out)
 }
 
 // A symbol's name comes before its `element` and `hide`, which are written already, and `wall` behind them.
@@ -95,16 +81,10 @@ fn close_symbol(s: &[u8], pen: Pen, notes: &[u32], out: &mut [u8]) -> Result<Pen
 {
     let from = pen.start;
     let middle = pen.at;
-    let named = put_noted(TABLE_SYMBOL, 0, s, notes[0], &mut out[middle..]);
-    let Ok(n) = named else {
-        return Err(NoRoom);
-    };
+    let n = put_noted(TABLE_SYMBOL, 0, s, notes[0], &mut out[middle..])?;
     let to = middle + n;
-    exchange(&mut out[from..to], middle - from);
-    let walled = put_noted(TABLE_SYMBOL, 3, s, notes[3], &mut out[to..]);
-    let Ok(m) = walled else {
-        return Err(NoRoom);
-    };
+    out[from..to].rotate_left(middle - from);
+    let m = put_noted(TABLE_SYMBOL, 3, s, notes[3], &mut out[to..])?;
     shut(at_block(pen, n + m, BLOCK_SYMBOL, 0), BLOCK_DEFINES, out)
 }
 
@@ -121,46 +101,28 @@ fn close_wire(
     requires { Safe pen out.old }
     ensures { Kept out.old out.new result × ShutsWire s.now body.now start from pen notes.now out.old out.new result }
 {
-    let place = pen.at;
-    match put_keys(s, body, start, from, notes, &mut out[place..]) {
-        Ok(n) => shut(at_block(pen, n, BLOCK_WIRE, 0), BLOCK_FIGURES, out),
-        Err(NoRoom) => Err(NoRoom),
-    }
+    let n = put_keys(s, body, start, from, notes, &mut out[pen.at..])?;
+    shut(at_block(pen, n, BLOCK_WIRE, 0), BLOCK_FIGURES, out)
 }
 
 // The block around one whose `}` is all that is written.
 fn around_block(pen: Pen) -> u8
     ensures { result ≡ around_block pen }
 {
-    if pen.block == BLOCK_FIGURES {
-        return by_home(pen.layered, BLOCK_ELEMENTS, BLOCK_SYMBOL);
+    match pen.block {
+        BLOCK_FIGURES => by_home(pen.layered, BLOCK_ELEMENTS, BLOCK_SYMBOL),
+        BLOCK_CHAIN => BLOCK_FIGURES,
+        BLOCK_LAYER_NAMES => BLOCK_DRAWING,
+        BLOCK_HIDE => BLOCK_SYMBOL,
+        _ => BLOCK_TOP,
     }
-    if pen.block == BLOCK_CHAIN {
-        return BLOCK_FIGURES;
-    }
-    if pen.block == BLOCK_LAYER_NAMES {
-        return BLOCK_DRAWING;
-    }
-    if pen.block == BLOCK_HIDE {
-        return BLOCK_SYMBOL;
-    }
-    BLOCK_TOP
 }
 
 // An inner part of FILE_FORMAT, of a placed symbol or of a wire closes: nothing is written.
 fn in_part(pen: Pen) -> bool
     ensures { result ≡ in_part pen }
 {
-    if pen.part == 0 {
-        return false;
-    }
-    if pen.block == BLOCK_FILE {
-        return true;
-    }
-    if pen.block == BLOCK_WIRE {
-        return true;
-    }
-    pen.block == BLOCK_PLACED
+    pen.part != 0 && matches!(pen.block, BLOCK_FILE | BLOCK_WIRE | BLOCK_PLACED)
 }
 
 fn part_closed(pen: Pen) -> Pen

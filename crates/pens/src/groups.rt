@@ -44,10 +44,12 @@ fn no_text() -> Opened
 fn row_under(s: &[u8], amid: Opened, key: Span) -> Option<Row>
     ensures { FoundUnder s.now amid key result }
 {
-    if amid.text {
-        return row_of(TABLE_LAYER_TEXT, part(s, key));
-    }
-    row_of(TABLE_WIRE, part(s, key))
+    let table = if amid.text {
+        TABLE_LAYER_TEXT
+    } else {
+        TABLE_WIRE
+    };
+    row_of(table, part(s, key))
 }
 
 // The row of a line that has a key.
@@ -55,18 +57,9 @@ fn row_here(s: &[u8], amid: Opened, form: LineForm) -> Option<Row>
     ensures { FoundHere s.now amid form result }
 {
     match form {
-        LineForm::Opens(o) => {
-            let key = o.key;
-            row_under(s, amid, key)
-        }
-        LineForm::Equals(q) => {
-            let key = q.key;
-            row_under(s, amid, key)
-        }
-        LineForm::Ignored => None,
-        LineForm::Close => None,
-        LineForm::Eof => None,
-        LineForm::Refused(_) => None,
+        LineForm::Opens(o) => row_under(s, amid, o.key),
+        LineForm::Equals(q) => row_under(s, amid, q.key),
+        _ => None,
     }
 }
 
@@ -75,39 +68,22 @@ fn rest_here(form: LineForm) -> Rest
     ensures { result ≡ rest_here form }
 {
     match form {
-        LineForm::Equals(q) => {
-            let rest = q.rest;
-            Rest::Equals(rest)
-        }
-        LineForm::Opens(_) => Rest::Brace,
-        LineForm::Ignored => Rest::Brace,
-        LineForm::Close => Rest::Brace,
-        LineForm::Eof => Rest::Brace,
-        LineForm::Refused(_) => Rest::Brace,
+        LineForm::Equals(q) => Rest::Equals(q.rest),
+        _ => Rest::Brace,
     }
 }
 
 fn is_close(form: LineForm) -> bool
     ensures { result ≡ is_close form }
 {
-    match form {
-        LineForm::Close => true,
-        LineForm::Ignored => false,
-        LineForm::Eof => false,
-        LineForm::Opens(_) => false,
-        LineForm::Equals(_) => false,
-        LineForm::Refused(_) => false,
-    }
+    matches!(form, LineForm::Close)
 }
 
 // The wire's own `}`.
 fn is_over(amid: Opened, form: LineForm) -> bool
     ensures { result ≡ is_over amid form }
 {
-    if is_close(form) {
-        return !amid.text;
-    }
-    false
+    is_close(form) && !amid.text
 }
 
 // A row of the text that is open, noted.
@@ -168,10 +144,7 @@ fn put_own(
 ) -> Result<usize, NoRoom>
     ensures { Within out.old out.new result × PrintsOwn s.now j amid row rest out.old out.new result }
 {
-    if amid.text {
-        return Ok(0);
-    }
-    if row.number != j {
+    if amid.text || row.number != j {
         return Ok(0);
     }
     put_row(TABLE_WIRE, row, s, rest, out)
@@ -181,10 +154,7 @@ fn put_own(
 fn put_shut(s: &[u8], j: u8, amid: Opened, out: &mut [u8]) -> Result<usize, NoRoom>
     ensures { Within out.old out.new result × PrintsShut s.now j amid out.old out.new result }
 {
-    if !amid.text {
-        return Ok(0);
-    }
-    if j != ROW_TEXT {
+    if !amid.text || j != ROW_TEXT {
         return Ok(0);
     }
     put_text(s, amid, out)

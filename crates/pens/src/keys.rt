@@ -1,5 +1,5 @@
 // A line with a key: written at once, or noted till its block closes.
-ghost use Rattle.std.specs.Prelude.{◌≡◌, cond, ◌+◌, eqb, length, set};
+ghost use Rattle.std.specs.Prelude.{◌≡◌, ◌+◌, length, set};
 ghost use Rattle.rules.specs.Rows.{inner_of};
 ghost use Rattle.tables.specs.Rows.{kind_of};
 ghost use Rattle.pens.specs.Texts.{Safe};
@@ -7,7 +7,6 @@ ghost use Rattle.pens.specs.Moves.{moved, begun, among_figures, is_element, figu
 ghost use Rattle.pens.specs.Noting.{note_of, notes_from, figure_notes};
 ghost use Rattle.pens.specs.Keys.{is_brace, NamedLine};
 ghost use Rattle.pens.specs.KeyWriting.{Kept, DrawsRow, RowDone, KeyOrName, plain_table_of};
-ghost use Rattle.tables.specs.Numbering.{table_layer_text, table_placed, table_placed_text, table_wire};
 ghost use Rattle.account.specs.Numbering.{block_top, block_file, block_drawing, block_defines, block_symbol, block_figures, block_placed, block_wire, most_rows};
 
 use crate::Pen;
@@ -35,10 +34,7 @@ use tables::{
 fn is_brace(rest: Rest) -> bool
     ensures { result ≡ is_brace rest }
 {
-    match rest {
-        Rest::Brace => true,
-        Rest::Equals(_) => false,
-    }
+    matches!(rest, Rest::Brace)
 }
 
 // The table of the figures: in a layer a placed symbol is a block, or one line. The tables with wires do for a set without: it has no line
@@ -46,93 +42,47 @@ fn is_brace(rest: Rest) -> bool
 fn figure_table(layered: bool, rest: Rest) -> u8
     ensures { result ≡ figure_table_of layered (is_brace rest) }
 {
-    if !layered {
-        return TABLE_FIGURES;
+    match (layered, rest) {
+        (false, _) => TABLE_FIGURES,
+        (true, Rest::Brace) => TABLE_WIRED_LAYER,
+        (true, Rest::Equals(_)) => TABLE_SINGLE_WIRED_LAYER,
     }
-    if is_brace(rest) {
-        return TABLE_WIRED_LAYER;
-    }
-    TABLE_SINGLE_WIRED_LAYER
 }
 
 // The table of FILE_FORMAT's open part; the volumes behind the first have no inner parts.
 pub(crate) fn file_table(first: bool, part: u8) -> u8
     ensures { result ≡ file_table_of first part }
 {
-    if !first {
-        return TABLE_LATER;
+    match (first, part) {
+        (false, _) => TABLE_LATER,
+        (true, 0) => TABLE_FILE,
+        (true, 1) => TABLE_RANGE,
+        (true, 2) => TABLE_BASE,
+        (true, 3) => TABLE_ELEC,
+        (true, _) => TABLE_SYM,
     }
-    if part == 0 {
-        return TABLE_FILE;
-    }
-    if part == 1 {
-        return TABLE_RANGE;
-    }
-    if part == 2 {
-        return TABLE_BASE;
-    }
-    if part == 3 {
-        return TABLE_ELEC;
-    }
-    TABLE_SYM
-}
-
-fn wire_table(part: u8) -> u8
-    ensures { result ≡ cond (eqb part 0) table_wire table_layer_text }
-{
-    if part == 0 {
-        return TABLE_WIRE;
-    }
-    TABLE_LAYER_TEXT
-}
-
-fn placed_table(part: u8) -> u8
-    ensures { result ≡ cond (eqb part 0) table_placed table_placed_text }
-{
-    if part == 0 {
-        return TABLE_PLACED;
-    }
-    TABLE_PLACED_TEXT
 }
 
 // The table of the block that is open.
 fn table_of(first: bool, pen: Pen, rest: Rest) -> u8
     ensures { result ≡ table_for first pen (is_brace rest) }
 {
-    if pen.block == BLOCK_FIGURES {
-        return figure_table(pen.layered, rest);
+    match (pen.block, pen.part) {
+        (BLOCK_FIGURES, _) => figure_table(pen.layered, rest),
+        (BLOCK_CHAIN, _) => by_home(pen.layered, TABLE_LAYER_POINTS, TABLE_SYMBOL_POINTS),
+        (BLOCK_WIRE, 0) => TABLE_WIRE,
+        (BLOCK_WIRE, _) => TABLE_LAYER_TEXT,
+        (BLOCK_TEXT, _) => by_home(pen.layered, TABLE_LAYER_TEXT, TABLE_SYMBOL_TEXT),
+        (BLOCK_PLACED, 0) => TABLE_PLACED,
+        (BLOCK_PLACED, _) => TABLE_PLACED_TEXT,
+        (BLOCK_TOP, _) => TABLE_TOP,
+        (BLOCK_FILE, part) => file_table(first, part),
+        (BLOCK_DRAWING, _) => TABLE_DRAWING,
+        (BLOCK_DEFINES, _) => TABLE_DEFINES,
+        (BLOCK_SYMBOL, _) => TABLE_SYMBOL,
+        (BLOCK_HIDE, _) => TABLE_SYMBOL_POINTS,
+        _ => TABLE_ELEMENT,
     }
-    if pen.block == BLOCK_CHAIN {
-        return by_home(pen.layered, TABLE_LAYER_POINTS, TABLE_SYMBOL_POINTS);
-    }
-    if pen.block == BLOCK_WIRE {
-        return wire_table(pen.part);
-    }
-    if pen.block == BLOCK_TEXT {
-        return by_home(pen.layered, TABLE_LAYER_TEXT, TABLE_SYMBOL_TEXT);
-    }
-    if pen.block == BLOCK_PLACED {
-        return placed_table(pen.part);
-    }
-    if pen.block == BLOCK_TOP {
-        return TABLE_TOP;
-    }
-    if pen.block == BLOCK_FILE {
-        return file_table(first, pen.part);
-    }
-    if pen.block == BLOCK_DRAWING {
-        return TABLE_DRAWING;
-    }
-    if pen.block == BLOCK_DEFINES {
-        return TABLE_DEFINES;
-    }
-    if pen.block == BLOCK_SYMBOL {
-        return TABLE_SYMBOL;
-    }
-    if pen.block == BLOCK_HIDE {
-        return TABLE_SYMBOL_POINTS;
-    }
-    TABLE_ELEMENT
 }
 
 // A line that is written at once, and the block that is open behind it.
@@ -148,11 +98,8 @@ fn put_at_once(
     requires { Safe pen out.old }
     ensures { Kept out.old out.new result × DrawsRow table row s.now rest pen (λ n. moved pen n block 0) out.old out.new result }
 {
-    let from = pen.at;
-    match put_row(table, row, s, rest, &mut out[from..]) {
-        Ok(n) => Ok(at_block(pen, n, block, 0)),
-        Err(NoRoom) => Err(NoRoom),
-    }
+    let n = put_row(table, row, s, rest, &mut out[pen.at..])?;
+    Ok(at_block(pen, n, block, 0))
 }
 
 // A line that opens a block whose inner lines are written before its own.
@@ -168,11 +115,8 @@ fn put_begun(
     requires { Safe pen out.old }
     ensures { Kept out.old out.new result × DrawsRow table row s.now rest pen (λ n. begun pen n block) out.old out.new result }
 {
-    let from = pen.at;
-    match put_row(table, row, s, rest, &mut out[from..]) {
-        Ok(n) => Ok(begun(pen, n, block)),
-        Err(NoRoom) => Err(NoRoom),
-    }
+    let n = put_row(table, row, s, rest, &mut out[pen.at..])?;
+    Ok(begun(pen, n, block))
 }
 
 // A line behind which figures stand.
@@ -188,11 +132,8 @@ fn put_figures(
     requires { Safe pen out.old }
     ensures { Kept out.old out.new result × DrawsRow table row s.now rest pen (λ n. among_figures pen n layered) out.old out.new result }
 {
-    let from = pen.at;
-    match put_row(table, row, s, rest, &mut out[from..]) {
-        Ok(n) => Ok(among_figures(pen, n, layered)),
-        Err(NoRoom) => Err(NoRoom),
-    }
+    let n = put_row(table, row, s, rest, &mut out[pen.at..])?;
+    Ok(among_figures(pen, n, layered))
 }
 
 // A row's line noted.
@@ -273,11 +214,8 @@ fn key_names(key: Span, s: &[u8], rest: Rest, pen: Pen, out: &mut [u8]) -> Resul
     requires { Safe pen out.old }
     ensures { Kept out.old out.new result × NamedLine s.now key rest pen out.old out.new result }
 {
-    let from = pen.at;
-    match put_named(s, key, rest, &mut out[from..]) {
-        Ok(n) => Ok(at_block(pen, n, BLOCK_LAYER_NAMES, 0)),
-        Err(NoRoom) => Err(NoRoom),
-    }
+    let n = put_named(s, key, rest, &mut out[pen.at..])?;
+    Ok(at_block(pen, n, BLOCK_LAYER_NAMES, 0))
 }
 
 fn key_defines(
@@ -343,19 +281,14 @@ fn forget_for(block: u8, notes: &mut [u32])
     requires { length notes.old ≡ most_rows }
     ensures { notes.new ≡ figure_notes block notes.old }
 {
-    if block == BLOCK_PLACED {
-        forget(notes);
-        return;
+    match block {
+        BLOCK_PLACED | BLOCK_WIRE => forget(notes),
+        BLOCK_TEXT => {
+            notes[4] = 0;
+            notes[5] = 0;
+        }
+        _ => {}
     }
-    if block == BLOCK_WIRE {
-        forget(notes);
-        return;
-    }
-    if block != BLOCK_TEXT {
-        return;
-    }
-    notes[4] = 0;
-    notes[5] = 0;
 }
 
 fn key_figures(
@@ -398,10 +331,7 @@ fn key_placed(
 fn at_once_in_wire(pen: Pen, row: Row) -> bool
     ensures { result ≡ is_element pen.part row.number }
 {
-    if pen.part != 0 {
-        return false;
-    }
-    row.number < ROW_DIREC
+    pen.part == 0 && row.number < ROW_DIREC
 }
 
 // Of other rows it is noted that they stand there: the lines of those that repeat, and of the wire's texts, are found again when it closes.

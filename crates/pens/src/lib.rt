@@ -7,7 +7,6 @@ mod groups;
 pub mod keys;
 mod noted;
 pub mod places;
-mod swap;
 
 // Which block is open, and how far the writing is.
 #[derive(Clone, Copy)]

@@ -12,11 +12,10 @@ pub fn at_block(pen: Pen, n: usize, block: u8, part: u8) -> Pen
     ensures { result ≡ moved pen n block part }
 {
     Pen {
-        block: block,
-        part: part,
-        layered: pen.layered,
-        start: pen.start,
+        block,
+        part,
         at: pen.at + n,
+        ..pen
     }
 }
 
@@ -25,12 +24,13 @@ pub(crate) fn begun(pen: Pen, n: usize, block: u8) -> Pen
     requires { pen.at + n ≤ 18446744073709551615 }
     ensures { result ≡ begun pen n block }
 {
+    let at = pen.at + n;
     Pen {
-        block: block,
+        block,
         part: 0,
-        layered: pen.layered,
-        start: pen.at + n,
-        at: pen.at + n,
+        start: at,
+        at,
+        ..pen
     }
 }
 
@@ -41,9 +41,9 @@ pub(crate) fn among_figures(pen: Pen, n: usize, layered: bool) -> Pen
     Pen {
         block: BLOCK_FIGURES,
         part: 0,
-        layered: layered,
-        start: pen.start,
+        layered,
         at: pen.at + n,
+        ..pen
     }
 }
 
@@ -51,19 +51,12 @@ pub(crate) fn among_figures(pen: Pen, n: usize, layered: bool) -> Pen
 pub(crate) fn by_home(layered: bool, in_layer: u8, in_symbol: u8) -> u8
     ensures { result ≡ cond layered in_layer in_symbol }
 {
-    if layered {
-        return in_layer;
-    }
-    in_symbol
+    if layered { in_layer } else { in_symbol }
 }
 
 // All notes are taken away.
 pub(crate) fn forget(notes: &mut [u32])
     ensures { notes.new ≡ forgotten notes.old }
 {
-    let mut i = 0;
-    while i < notes.len() {
-        notes[i] = 0;
-        i += 1;
-    }
+    notes.fill(0);
 }

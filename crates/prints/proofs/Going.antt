@@ -19,7 +19,7 @@ use Rattle.leaves.specs.NoRoom.{no_room}
 
 -- ── what an answer tells ──
 -- there is one error
-pub is_full : (r : Result ℕ NoRoom) → IsErr r → r ≡ Err no_room
+pub is_full : {T : Type 0} (r : Result T NoRoom) → IsErr r → r ≡ Err no_room
 is_full (Ok n) e = absurd (let z : ◌≡◌ {A = ℕ} 0 1 = cc in omega arith)
 is_full (Err x) e = refl
 

@@ -1,6 +1,7 @@
 use Prim.Native.Nat.{ℕ}
 use mathlib.Core.Path.{refl}
 use native.Mathlib.Omega.{arith}
+use Rattle.prints.proofs.Going.{is_full}
 use Rattle.pens.proofs.Writers.{room-left, kept-go, kept_full, lays, room-lacks, drawn-go, drawn-none}
 use Rattle.pens.specs.Moves.{moved}
 use Rattle.pens.proofs.closing.shut.Goals as goal
@@ -9,18 +10,18 @@ pub at_block-requires : goal.at_block-requires
 at_block-requires c =
     let args = c.args in
     let pre = c.requires in
-    omega (arith, room-left args.out.now args.pen.at pre.within _ _ c.put_plain.ensures.0 c.in-Ok.n c.in-Ok.is)
+    omega (arith, room-left args.out.now args.pen.at pre.within _ _ c.put_plain.ensures.0 c.in_ok-n.n c.in_ok-n.was)
 
-pub returns-in-Ok : goal.returns-in-Ok
-returns-in-Ok c =
+pub returns : goal.returns
+returns c =
     let args = c.args in
     let pre = c.requires in
     let the-put-plain = c.put_plain in
-    (kept-go args.out.now args.pen.at pre.within _ _ the-put-plain.ensures.0 c.in-Ok.n (moved args.pen c.in-Ok.n args.block 0) _ c.in-Ok.is c.at_block.ensures (omega (arith, pre.begun)) refl, drawn-go _ _ _ _ _ (lays args.out.now args.pen.at pre.within _ _ _ the-put-plain.ensures.1 c.in-Ok.n c.in-Ok.is) (λ (m : ℕ). moved args.pen (m) args.block 0) _ c.at_block.ensures)
+    (kept-go args.out.now args.pen.at pre.within _ _ the-put-plain.ensures.0 c.in_ok-n.n (moved args.pen c.in_ok-n.n args.block 0) _ c.in_ok-n.was c.at_block.ensures (omega (arith, pre.begun)) refl, drawn-go _ _ _ _ _ (lays args.out.now args.pen.at pre.within _ _ _ the-put-plain.ensures.1 c.in_ok-n.n c.in_ok-n.was) (λ (m : ℕ). moved args.pen (m) args.block 0) _ c.at_block.ensures)
 
-pub returns-in-Err : goal.returns-in-Err
-returns-in-Err c =
+pub returns-in_err-n : goal.returns-in_err-n
+returns-in_err-n c =
     let args = c.args in
     let pre = c.requires in
     let the-put-plain = c.put_plain in
-    (kept_full args.out.now args.pen.at pre.within _ _ the-put-plain.ensures.0, drawn-none _ _ _ _ _ (room-lacks args.out.now args.pen.at pre.within _ _ _ the-put-plain.ensures.1 c.in-Err.is))
+    rw (is_full _ c.from_residual.ensures.0) (kept_full args.out.now args.pen.at pre.within _ _ the-put-plain.ensures.0, drawn-none _ _ _ _ _ (room-lacks args.out.now args.pen.at pre.within _ _ _ the-put-plain.ensures.1 c.in_err-n.was))

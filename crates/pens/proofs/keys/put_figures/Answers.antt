@@ -1,6 +1,7 @@
 use Prim.Native.Nat.{ℕ}
 use mathlib.Core.Path.{refl}
 use native.Mathlib.Omega.{arith}
+use Rattle.prints.proofs.Going.{is_full}
 use Rattle.pens.proofs.Writers.{room-left, kept-go, kept_full, lays, room-lacks, drawn-go, drawn-none}
 use Rattle.pens.specs.Moves.{among_figures}
 use Rattle.pens.proofs.keys.put_figures.Goals as goal
@@ -9,18 +10,18 @@ pub among_figures-requires : goal.among_figures-requires
 among_figures-requires c =
     let args = c.args in
     let pre = c.requires in
-    omega (arith, room-left args.out.now args.pen.at pre.within _ _ c.put_row.ensures.0 c.in-Ok.n c.in-Ok.is)
+    omega (arith, room-left args.out.now args.pen.at pre.within _ _ c.put_row.ensures.0 c.in_ok-n.n c.in_ok-n.was)
 
-pub returns-in-Ok : goal.returns-in-Ok
-returns-in-Ok c =
+pub returns : goal.returns
+returns c =
     let args = c.args in
     let pre = c.requires in
     let the-put-row = c.put_row in
-    (kept-go args.out.now args.pen.at pre.within _ _ the-put-row.ensures.0 c.in-Ok.n (among_figures args.pen c.in-Ok.n args.layered) _ c.in-Ok.is c.among_figures.ensures (omega (arith, pre.begun)) refl, λ k q v i g. drawn-go _ _ _ _ _ (lays args.out.now args.pen.at pre.within _ _ _ (the-put-row.ensures.1 k q v i.rule i.key g) c.in-Ok.n c.in-Ok.is) (λ (m : ℕ). among_figures args.pen (m) args.layered) _ c.among_figures.ensures)
+    (kept-go args.out.now args.pen.at pre.within _ _ the-put-row.ensures.0 c.in_ok-n.n (among_figures args.pen c.in_ok-n.n args.layered) _ c.in_ok-n.was c.among_figures.ensures (omega (arith, pre.begun)) refl, λ k q v i g. drawn-go _ _ _ _ _ (lays args.out.now args.pen.at pre.within _ _ _ (the-put-row.ensures.1 k q v i.rule i.key g) c.in_ok-n.n c.in_ok-n.was) (λ (m : ℕ). among_figures args.pen (m) args.layered) _ c.among_figures.ensures)
 
-pub returns-in-Err : goal.returns-in-Err
-returns-in-Err c =
+pub returns-in_err-n : goal.returns-in_err-n
+returns-in_err-n c =
     let args = c.args in
     let pre = c.requires in
     let the-put-row = c.put_row in
-    (kept_full args.out.now args.pen.at pre.within _ _ the-put-row.ensures.0, λ k q v i g. drawn-none _ _ _ _ _ (room-lacks args.out.now args.pen.at pre.within _ _ _ (the-put-row.ensures.1 k q v i.rule i.key g) c.in-Err.is))
+    rw (is_full _ c.from_residual.ensures.0) (kept_full args.out.now args.pen.at pre.within _ _ the-put-row.ensures.0, λ k q v i g. drawn-none _ _ _ _ _ (room-lacks args.out.now args.pen.at pre.within _ _ _ (the-put-row.ensures.1 k q v i.rule i.key g) c.in_err-n.was))
