@@ -219,23 +219,9 @@ char-le t i h = (char-passed t i i (passed_none t i h)).high
 pub key-le : (t : List ℕ) (i : ℕ) → i ≤ length t → i + key_char (drop i t) ≤ length t
 key-le t i h = (key-passed t i i (key-none_yet t i h)).passed.high
 
--- the byte of a key as the code tests it
-pub byte_equal : (b : ℕ) → b ≡ 61 → key_byte b ≡ false
-byte_equal b e = rw e
-
-pub byte-colon : (b : ℕ) → b ≡ 58 → key_byte b ≡ false
-byte-colon b e = rw e
-
-pub byte-other : (b : ℕ) → (b ≡ 61 → ⊥) → (b ≡ 58 → ⊥) → key_byte b ≡ within 32 126 b
-byte-other b e f = rw (ne_eqb b 61 e, ne_eqb b 58 f)
-
 pub char-end : (t : List ℕ) (i : ℕ) → length t ≤ i → char_of (drop i t) ≡ 0
 unfolding char_of
 char-end t i h = rw (drop_of_length-le t h)
-
-pub key-end : (t : List ℕ) (i : ℕ) → length t ≤ i → key_char (drop i t) ≡ 0
-unfolding key_char
-key-end t i h = rw (drop_of_length-le t h)
 
 -- the character at a place, as the code tests it
 module _ (t : List ℕ) (i : ℕ) (h : i < length t) where
@@ -315,9 +301,6 @@ pub record BlanksYet (t : List ℕ) (i : ℕ) : Type 0 where
   pub high : i ≤ length t
   pub rest : unindent t ≡ unindent (drop i t)
 
-pub blanks-start : (t : List ℕ) → BlanksYet t 0
-blanks-start t = record { high = omega arith; rest = refl }
-
 module _ (t : List ℕ) (i : ℕ) (g : BlanksYet t i) where
   pub blanks-more : BlanksYet t (i + blank_of (drop i t))
   blanks-more =
@@ -331,10 +314,6 @@ module _ (t : List ℕ) (i : ℕ) (g : BlanksYet t i) where
 
   pub blanks-stop : blank_of (drop i t) ≡ 0 → Blanks t i
   blanks-stop z = record { high = g.high; rest = g.rest ∙ forms.unindent-stop (drop i t) z }
-
-  pub blanks-end : length t ≤ i → Blanks t i
-  unfolding blank_of
-  blanks-end h = blanks-stop (rw (drop_of_length-le t h))
 
 -- ── the form of a line ──
 opens-bytes : (v : List ℕ) → opens_here v ≡ true → v ≡ 58 ∷ 123 ∷ drop 2 v

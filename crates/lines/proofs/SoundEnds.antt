@@ -67,9 +67,6 @@ module _ (s : List ℕ) (i : ℕ) where
       let n : i + 8 - i ≡ 8 = omega arith in
       sym (fold-high true (take 8 (drop i s))) ∙ ap (λ k. fold (λ high b. high && high_byte b) true (take k (drop i s))) (sym n) ∙ sym e ∙ h
 
-  pub no-end_yet : i ≤ length s → NoEnd s i i
-  no-end_yet h = record { low = omega arith; high = h; run = refl }
-
   pub no-end-eight : (j : ℕ) → NoEnd s i j → j + 8 ≤ length s → all high_byte (take 8 (drop j s)) ≡ true → NoEnd s i (j + 8)
   no-end-eight j p h e =
       let low = p.low in

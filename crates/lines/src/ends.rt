@@ -109,7 +109,7 @@ fn sound_at(s: &[u8], place: u32, size: u32) -> bool
     sound_lines(&s[from..to])
 }
 
-// The number, from 1, of the first volume whose lines break rule 3; 0 where none does.
+// The number, from 1, of the first volume whose lines break rule 3; 0 where none does, as `first_unsound` of the specs has it.
 pub fn first_unsound(s: &[u8], l: Layout) -> u32
     ensures { result ≡ first_unsound s.now l }
 {

@@ -4,7 +4,7 @@
 use rules::LineForm;
 
 // Where a spool's volumes stand: how many there are, and for each the place of its first byte and its length; zeros behind them.
-// A spool that refusal 2 holds of has none.
+// A spool that refusal 2 holds of has none. (Arrays side by side, as the laws of a set's run in `sets` name the fields.)
 #[derive(Clone, Copy)]
 pub struct Layout {
     pub count: u32,

@@ -139,7 +139,7 @@ fn plain_key(t: &[u8], from: usize) -> usize
     t.len()
 }
 
-// Over the allowed bytes from a place on.
+// Over the allowed bytes from a place on. (One function over this and `key_run`, by closures, would say more in its contract than both do.)
 pub(crate) fn clean_run(t: &[u8], from: usize) -> usize
     requires { from ≤ length t.now }
     ensures { CleanRun t.now from result }

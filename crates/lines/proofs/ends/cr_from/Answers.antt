@@ -1,7 +1,7 @@
 use mathlib.Core.Path.{ap}
 use native.Mathlib.Omega.{arith}
 use lib.ListN.{length}
-use Rattle.leaves.proofs.Scan.{up_to_hit, up_to_miss, up_to-end}
+use Rattle.leaves.proofs.Scan.{up_to_hit, up_to_miss}
 use Rattle.lines.proofs.SoundEnds as laws
 use Rattle.lines.proofs.ends.cr_from.Goals as goal
 

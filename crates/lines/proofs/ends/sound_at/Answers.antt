@@ -1,9 +1,4 @@
-use mathlib.Core.Path.{sym, ◌∙◌, ap}
-use native.Mathlib.Omega.{arith}
-use Prim.Native.Nat.{◌-◌}
-use lib.ListN.{drop, take}
-use Rattle.rules.specs.Base.{is_some}
-use Rattle.rules.specs.Spool.{lines_of}
+use mathlib.Core.Path.{sym}
 use Rattle.lines.proofs.SoundEnds as laws
 use Rattle.lines.proofs.ends.sound_at.Goals as goal
 

@@ -3,7 +3,6 @@ use mathlib.Core.Bool.{true, false}
 use borrow.Author.Rules.{rules}
 use Prim.Native.Nat.{◌+◌}
 use native.Mathlib.Omega.{arith}
-use mathlib.Core.Path.{refl}
 use Rattle.lines.proofs.SoundEnds as laws
 use Rattle.lines.proofs.ends.sound_lines.Goals as goal
 use Rattle.lines.proofs.ends.sound_lines.Goals.{then-e-i-gt-MOST_IN_LINE-via-then-e-i-gt-MOST_IN_LINE, then-e-i-gt-MOST_IN_LINE-via-else-e-i-gt-MOST_IN_LINE+then-not-lf_at}

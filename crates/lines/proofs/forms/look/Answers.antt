@@ -1,8 +1,7 @@
 use mathlib.Core.Path.{refl, sym, ◌∙◌, ap}
 use Prim.Native.Nat.{◌+◌, ◌-◌}
 use native.Mathlib.Omega.{arith}
-use lib.ListN.{length, drop, length-drop}
-use lib.Seq.{length-take-le}
+use lib.ListN.{length}
 use Rattle.lines.specs.LineLook.{seen_at}
 use Rattle.lines.proofs.LineLook as laws
 use Rattle.lines.proofs.forms.look.Goals as goal

@@ -3,7 +3,6 @@ use lib.ListN.{length}
 use borrow.Author.Rules.{rules}
 use native.Mathlib.Omega.{arith}
 use Rattle.lines.proofs.VolumePlaces as laws
-use lib.Seq.{length-take-le}
 use Rattle.lines.proofs.spool.volumes.Goals as goal
 use Rattle.lines.proofs.spool.volumes.Goals.{then-is_empty-via-then-is_empty, then-is_empty-via-else-is_empty+then-s-gt-MOST_BYTES}
 

@@ -1,5 +1,4 @@
 use mathlib.Core.Path.{ap, sym, ◌∙◌}
-use native.Mathlib.Omega.{arith}
 use Rattle.lines.specs.VolumePlaces.{head_in}
 use Rattle.lines.proofs.VolumePlaces as laws
 use Rattle.lines.proofs.spool.walk.Goals as goal
