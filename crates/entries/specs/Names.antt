@@ -3,6 +3,7 @@ use Rattle.std.specs.Prelude.{ℕ, suc, ◌/◌, ◌%◌, cond, List, [], ◌∷
 use Rattle.rules.specs.Base.{same}
 use Rattle.rules.specs.Lines.{span, bytes_at}
 use Rattle.rules.specs.Values.{Known}
+use Rattle.entries.specs.declared.Known.{Known as Lent}
 
 -- a place and, 65,536 times, a length
 abbrev pub name_in : List ℕ → ℕ → List ℕ
@@ -19,3 +20,6 @@ index_from i k (u ∷ us) = cond (same k u) (Some i) (index_from (suc i) k us)
 -- what a value may name
 abbrev pub known_in : List ℕ → List ℕ → List ℕ → Known
 known_in s symbols layers = record { symbols = names_in s symbols; layers = names_in s layers }
+
+abbrev pub known_of : Lent → Known
+known_of n = known_in n.spool.now n.symbols.now n.layers.now

@@ -5,15 +5,15 @@ ghost use Rattle.rules.specs.Lines.{bytes_at, form_in};
 ghost use Rattle.rules.specs.Rows.{find, present, complete, act_unknown, act_found, act, shut, refuse};
 ghost use Rattle.rules.specs.RecordTable.{rule_at};
 ghost use Rattle.tables.specs.Tables.{table_of};
-ghost use Rattle.entries.specs.Names.{known_in};
+ghost use Rattle.entries.specs.Names.{known_in, known_of};
 ghost use Rattle.entries.specs.Shapes.{rest_in};
 ghost use Rattle.entries.specs.Acts.{roomy, next_of, Acts, wanted};
 
 use crate::names::part;
 use crate::required::required;
-use crate::row_lines::{act_row, reaches};
+use crate::row_lines::{reaches, row_line};
 use crate::shapes::{key_of, rest_of, shape_for};
-use crate::{Next, Rest, Shape};
+use crate::{Known, Next, Rest, Shape};
 use rules::{Digits, LineForm, Span};
 use tables::lookup::row_of;
 
@@ -67,9 +67,7 @@ fn unknown(s: &[u8], rest: Rest) -> Next
 
 fn act_key(
     table: u8,
-    s: &[u8],
-    symbols: &[u32],
-    layers: &[u32],
+    known: &Known<'_>,
     d: Digits,
     full: &[bool],
     key: Span,
@@ -77,14 +75,14 @@ fn act_key(
     dump: usize,
     rec: &mut [i64],
 ) -> Next
-    requires { (length s.now ≤ 61440) × (length symbols.now ≤ 65536) × (length layers.now ≤ 65536) × (all (roomy dump (length rec.old)) (table_of table) ≡ true) }
-    ensures { Acts (rule_at (table_of table)) dump rec.old (act_found (known_in s.now symbols.now layers.now) d full.now (rest_in s.now rest) (find (bytes_at s.now key) (table_of table))) rec.new result }
+    requires { all (roomy dump (length rec.old)) (table_of table) ≡ true }
+    ensures { Acts (rule_at (table_of table)) dump rec.old (act_found (known_of known.now) d full.now (rest_in known.now.spool.now rest) (find (bytes_at known.now.spool.now key) (table_of table))) rec.new result }
 {
-    match row_of(table, part(s, key)) {
-        None => unknown(s, rest),
+    match row_of(table, part(known.spool, key)) {
+        None => unknown(known.spool, rest),
         Some(row) => {
             let had = mark(full, row.number);
-            act_row(row, s, symbols, layers, d, had, rest, dump, rec)
+            row_line(row, known, d, had, rest, dump, rec)
         }
     }
 }
@@ -105,6 +103,11 @@ pub fn act(
     requires { (length s.now ≤ 61440) × (length symbols.now ≤ 65536) × (length layers.now ≤ 65536) × (length full.now ≡ length (table_of table)) × (all (roomy dump (length rec.old)) (table_of table) ≡ true) }
     ensures { Acts (rule_at (table_of table)) dump rec.old (act (known_in s.now symbols.now layers.now) (table_of table) d full.now (form_in s.now form)) rec.new result }
 {
+    let known = Known {
+        spool: s,
+        symbols,
+        layers,
+    };
     match form {
         LineForm::Ignored => Next::Stay,
         LineForm::Close => close(table, d, full),
@@ -112,9 +115,7 @@ pub fn act(
         LineForm::Refused(r) => Next::Refuse(r.number),
         LineForm::Opens(_) | LineForm::Equals(_) => act_key(
             table,
-            s,
-            symbols,
-            layers,
+            &known,
             d,
             full,
             key_of(form),

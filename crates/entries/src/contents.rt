@@ -5,9 +5,10 @@ ghost use Rattle.rules.specs.Values.{read_text, read_kind, volume_name, sheet, r
 ghost use Rattle.rules.specs.RecordTable.{numbers, columns};
 ghost use Rattle.leaves.specs.Bytes.{bytes_of};
 ghost use Rattle.tables.specs.Rows.{kind_of};
-ghost use Rattle.entries.specs.Names.{known_in};
+ghost use Rattle.entries.specs.Names.{known_in, known_of};
 ghost use Rattle.entries.specs.Entering.{Puts, settled, serials_in};
 
+use crate::Known;
 use crate::by_forms::values_in;
 use crate::parts::single;
 use crate::values::{put_value, values};
@@ -102,15 +103,13 @@ fn put_serials(c: &[u8], p: usize, rec: &mut [i64]) -> Result<(), u8>
 pub(crate) fn read_kind(
     row: Row,
     at: u32,
-    s: &[u8],
-    symbols: &[u32],
-    layers: &[u32],
+    known: &Known<'_>,
     c: &[u8],
     p: usize,
     rec: &mut [i64],
 ) -> Result<(), u8>
-    requires { (length symbols.now ≤ 65536) × (length layers.now ≤ 65536) × (length c.now ≤ 61440) × (p + columns (kind_of row) ≤ length rec.old) × (settled (kind_of row) ≡ true) }
-    ensures { Puts (read_kind (known_in s.now symbols.now layers.now) (kind_of row) at c.now) (λ v. sets rec.old p (numbers v)) rec.new result }
+    requires { (length c.now ≤ 61440) × (p + columns (kind_of row) ≤ length rec.old) × (settled (kind_of row) ≡ true) }
+    ensures { Puts (read_kind (known_of known.now) (kind_of row) at c.now) (λ v. sets rec.old p (numbers v)) rec.new result }
 {
     match row.kind {
         HOLDS_TEXT | HOLDS_WORD => chars(row.most, row.set, at, c, p, rec),
@@ -119,9 +118,9 @@ pub(crate) fn read_kind(
         HOLDS_RATIO => put_ratio(c, p, rec),
         HOLDS_SERIALS => put_serials(c, p, rec),
         HOLDS_NOTHING | HOLDS_BLOCK => Err(5),
-        HOLDS_HEADED => put_value(single(row.parts, s, symbols, layers, c), p, rec),
-        HOLDS_EITHER => put_value(single(PART_RANGE_0_1, s, symbols, layers, c), p, rec),
+        HOLDS_HEADED => put_value(single(row.parts, known, c), p, rec),
+        HOLDS_EITHER => put_value(single(PART_RANGE_0_1, known, c), p, rec),
         HOLDS_WIRE_SERIAL => put_wire_serial(c, p, rec),
-        _ => values(row, s, symbols, layers, c, p, rec),
+        _ => values(row, known, c, p, rec),
     }
 }

@@ -14,7 +14,20 @@ pub mod shapes;
 mod values;
 mod wire_serials;
 
+ghost use Rattle.std.specs.Prelude.{◌≤◌, length};
+
 use rules::Span;
+
+// What a line's values name: parts of the spool, and in it the symbols and the layers, by their places.
+#[derive(Clone, Copy)]
+pub(crate) struct Known<'a> {
+    spool: &'a [u8],
+    symbols: &'a [u32],
+    layers: &'a [u32],
+    ghost short: { length spool.now ≤ 61440 },
+    ghost few_symbols: { length symbols.now ≤ 65536 },
+    ghost few_layers: { length layers.now ≤ 65536 },
+}
 
 // A value, and where its piece ends.
 #[derive(Clone, Copy)]

@@ -4,11 +4,11 @@ ghost use Rattle.std.specs.Int.Signed.{le_z};
 ghost use Rattle.rules.specs.Base.{within as in_range};
 ghost use Rattle.rules.specs.Values.{served_symbols, served_wires, equal_z, in_bound, layer_id, read_part};
 ghost use Rattle.tables.specs.Rows.{bound_of, whole_of, part_of};
-ghost use Rattle.entries.specs.Names.{known_in};
+ghost use Rattle.entries.specs.Names.{known_of};
 ghost use Rattle.entries.specs.Parts.{val_of, count_val, reading_val, decimal_val, index_val, PieceIs};
 
-use crate::Piece;
 use crate::names::index_of;
+use crate::{Known, Piece};
 use leaves::Decimal;
 use leaves::bytes::{find, is_layer_id, within};
 use leaves::numbers::{clock, count, day, decimal, fixed};
@@ -130,21 +130,19 @@ fn numbered(i: Option<u32>, otherwise: u8) -> Result<i64, u8>
     i.map(i64::from).ok_or(otherwise)
 }
 
-fn layer(s: &[u8], layers: &[u32], c: &[u8]) -> Result<i64, u8>
-    requires { length layers.now ≤ 65536 }
-    ensures { result ≡ val_of (read_part (known_in s.now [] layers.now) layer_id c.now) }
+fn layer(known: &Known<'_>, c: &[u8]) -> Result<i64, u8>
+    ensures { result ≡ val_of (read_part (known_of known.now) layer_id c.now) }
 {
     if is_layer_id(c) {
-        numbered(index_of(s, layers, c), 14)
+        numbered(index_of(known.spool, known.layers, c), 14)
     } else {
         Err(11)
     }
 }
 
 // A value that is no decimal, from all its bytes.
-fn whole(code: u64, s: &[u8], symbols: &[u32], layers: &[u32], c: &[u8]) -> Result<i64, u8>
-    requires { (length symbols.now ≤ 65536) × (length layers.now ≤ 65536) }
-    ensures { result ≡ val_of (read_part (known_in s.now symbols.now layers.now) (whole_of code) c.now) }
+fn whole(code: u64, known: &Known<'_>, c: &[u8]) -> Result<i64, u8>
+    ensures { result ≡ val_of (read_part (known_of known.now) (whole_of code) c.now) }
 {
     match code {
         PART_FLAG => limited(fixed(c, 1), 0, 1, 11),
@@ -157,8 +155,8 @@ fn whole(code: u64, s: &[u8], symbols: &[u32], layers: &[u32], c: &[u8]) -> Resu
         PART_RANGE_0_2 => limited(fixed(c, 3), 0, 2, 12),
         PART_RANGE_1 => limited(fixed(c, 3), 1, 1, 12),
         PART_SYMBOL_RANGE => served(fixed(c, 3)),
-        PART_SYMBOL_NAME => numbered(index_of(s, symbols, c), 13),
-        PART_LAYER_ID => layer(s, layers, c),
+        PART_SYMBOL_NAME => numbered(index_of(known.spool, known.symbols, c), 13),
+        PART_LAYER_ID => layer(known, c),
         PART_WIRE_RANGE => served_wires(fixed(c, 3)),
         PART_SIGN => limited(fixed(c, 1), 0, 4, 11),
         PART_DIGIT => limited(fixed(c, 1), 0, 9, 11),
@@ -167,27 +165,19 @@ fn whole(code: u64, s: &[u8], symbols: &[u32], layers: &[u32], c: &[u8]) -> Resu
 }
 
 // A value from all its bytes.
-pub(crate) fn single(
-    code: u64,
-    s: &[u8],
-    symbols: &[u32],
-    layers: &[u32],
-    c: &[u8],
-) -> Result<i64, u8>
-    requires { (length symbols.now ≤ 65536) × (length layers.now ≤ 65536) }
-    ensures { result ≡ val_of (read_part (known_in s.now symbols.now layers.now) (part_of code) c.now) }
+pub(crate) fn single(code: u64, known: &Known<'_>, c: &[u8]) -> Result<i64, u8>
+    ensures { result ≡ val_of (read_part (known_of known.now) (part_of code) c.now) }
 {
     if PART_ANY_SIGN <= code {
         measured(code, decimal(c))
     } else {
-        whole(code, s, symbols, layers, c)
+        whole(code, known, c)
     }
 }
 
 // The value in front of the first comma, and where it ends.
-pub(crate) fn piece(code: u64, s: &[u8], symbols: &[u32], layers: &[u32], c: &[u8]) -> Piece
-    requires { (length symbols.now ≤ 65536) × (length layers.now ≤ 65536) }
-    ensures { PieceIs (known_in s.now symbols.now layers.now) code c.now result }
+pub(crate) fn piece(code: u64, known: &Known<'_>, c: &[u8]) -> Piece
+    ensures { PieceIs (known_of known.now) code c.now result }
 {
     if PART_ANY_SIGN <= code {
         let d = decimal_piece(c);
@@ -198,7 +188,7 @@ pub(crate) fn piece(code: u64, s: &[u8], symbols: &[u32], layers: &[u32], c: &[u
     } else {
         let end = find(c, b',');
         Piece {
-            val: whole(code, s, symbols, layers, &c[..end]),
+            val: whole(code, known, &c[..end]),
             end,
         }
     }

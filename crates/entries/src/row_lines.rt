@@ -6,7 +6,7 @@ ghost use Rattle.rules.specs.RangeClass.{reaches};
 ghost use Rattle.rules.specs.RecordTable.{put_state};
 ghost use Rattle.rules.specs.Rows.{not_twice, read_shape, inner_of, act_row};
 ghost use Rattle.tables.specs.Rows.{kind_of, times_of, rule_of};
-ghost use Rattle.entries.specs.Names.{known_in};
+ghost use Rattle.entries.specs.Names.{known_in, known_of};
 ghost use Rattle.entries.specs.Entering.{Puts};
 ghost use Rattle.entries.specs.Shapes.{rest_in, shape_in};
 ghost use Rattle.entries.specs.Acts.{place_of, put_line, roomy, value_of, Acts, act_shape, next_for};
@@ -14,7 +14,7 @@ ghost use Rattle.entries.specs.Acts.{place_of, put_line, roomy, value_of, Acts, 
 use crate::contents::read_kind;
 use crate::names::part;
 use crate::shapes::{fits, inner_of, is_free, shape_for};
-use crate::{Inner, Next, Rest, Shape};
+use crate::{Inner, Known, Next, Rest, Shape};
 use rules::{Digits, Span};
 use tables::{Row, TIMES_ONCE};
 
@@ -34,25 +34,15 @@ fn put_state(place: u8, z: i64, rec: &mut [i64])
 }
 
 // Content that is not empty, and that it is given.
-fn put_content(
-    row: Row,
-    s: &[u8],
-    symbols: &[u32],
-    layers: &[u32],
-    p: Span,
-    dump: usize,
-    rec: &mut [i64],
-) -> Result<(), u8>
-    requires { (length s.now ≤ 61440) × (length symbols.now ≤ 65536) × (length layers.now ≤ 65536) × (roomy dump (length rec.old) (rule_of row) ≡ true) }
-    ensures { Puts (read_kind (known_in s.now symbols.now layers.now) (kind_of row) p.at (bytes_at s.now p)) (λ v. put_line (rule_of row) dump v rec.old) rec.new result }
+fn put_content(row: Row, known: &Known<'_>, p: Span, dump: usize, rec: &mut [i64]) -> Result<(), u8>
+    requires { roomy dump (length rec.old) (rule_of row) ≡ true }
+    ensures { Puts (read_kind (known_of known.now) (kind_of row) p.at (bytes_at known.now.spool.now p)) (λ v. put_line (rule_of row) dump v rec.old) rec.new result }
 {
     read_kind(
         row,
         p.at,
-        s,
-        symbols,
-        layers,
-        part(s, p),
+        known,
+        part(known.spool, p),
         place_of(row.place, dump),
         rec,
     )?;
@@ -64,23 +54,19 @@ fn put_content(
 // put that function in line.
 fn put_shape(
     row: Row,
-    s: &[u8],
-    symbols: &[u32],
-    layers: &[u32],
+    known: &Known<'_>,
     shape: Shape,
     dump: usize,
     rec: &mut [i64],
 ) -> Result<(), u8>
-    requires { (length s.now ≤ 61440) × (length symbols.now ≤ 65536) × (length layers.now ≤ 65536) × (roomy dump (length rec.old) (rule_of row) ≡ true) }
-    ensures { Puts (read_shape (known_in s.now symbols.now layers.now) row.number (rule_of row) (shape_in s.now shape)) (λ a. put_line (rule_of row) dump (value_of a) rec.old) rec.new result }
+    requires { roomy dump (length rec.old) (rule_of row) ≡ true }
+    ensures { Puts (read_shape (known_of known.now) row.number (rule_of row) (shape_in known.now.spool.now shape)) (λ a. put_line (rule_of row) dump (value_of a) rec.old) rec.new result }
 {
     match shape {
         Shape::Formless => return Err(5),
         Shape::Opener => put_state(row.state, 2, rec),
         Shape::NoContent => put_state(row.state, 1, rec),
-        Shape::Content(p) | Shape::Opening(p) => {
-            put_content(row, s, symbols, layers, p, dump, rec)?
-        }
+        Shape::Content(p) | Shape::Opening(p) => { put_content(row, known, p, dump, rec)? }
     }
     Ok(())
 }
@@ -116,17 +102,15 @@ fn entered(row: Row, full: bool, shape: Shape) -> Next
 
 fn act_shape(
     row: Row,
-    s: &[u8],
-    symbols: &[u32],
-    layers: &[u32],
+    known: &Known<'_>,
     d: Digits,
     full: bool,
     shape: Shape,
     dump: usize,
     rec: &mut [i64],
 ) -> Next
-    requires { (length s.now ≤ 61440) × (length symbols.now ≤ 65536) × (length layers.now ≤ 65536) × (roomy dump (length rec.old) (rule_of row) ≡ true) }
-    ensures { Acts (λ _. rule_of row) dump rec.old (act_shape (known_in s.now symbols.now layers.now) d full row.number (rule_of row) (shape_in s.now shape)) rec.new result }
+    requires { roomy dump (length rec.old) (rule_of row) ≡ true }
+    ensures { Acts (λ _. rule_of row) dump rec.old (act_shape (known_of known.now) d full row.number (rule_of row) (shape_in known.now.spool.now shape)) rec.new result }
 {
     if matches!(shape, Shape::Formless) {
         return Next::Refuse(5);
@@ -134,16 +118,33 @@ fn act_shape(
     if !reaches(d, row.least) {
         return Next::Refuse(6);
     }
-    if !fits(row, s, shape) {
+    if !fits(row, known.spool, shape) {
         return Next::Refuse(5);
     }
     if twice(row.times, full) {
         return Next::Refuse(7);
     }
-    match put_shape(row, s, symbols, layers, shape, dump, rec) {
+    match put_shape(row, known, shape, dump, rec) {
         Err(n) => Next::Refuse(n),
         Ok(()) => entered(row, full, shape),
     }
+}
+
+// A line of a row that was found, by what stands behind its key.
+pub(crate) fn row_line(
+    row: Row,
+    known: &Known<'_>,
+    d: Digits,
+    full: bool,
+    rest: Rest,
+    dump: usize,
+    rec: &mut [i64],
+) -> Next
+    requires { roomy dump (length rec.old) (rule_of row) ≡ true }
+    ensures { Acts (λ _. rule_of row) dump rec.old (act_row (known_of known.now) d full row.number (rule_of row) (rest_in known.now.spool.now rest)) rec.new result }
+{
+    let shape = shape_for(known.spool, is_free(row), rest);
+    act_shape(row, known, d, full, shape, dump, rec)
 }
 
 // A line of a row that was found, in a file of the range d; `full` tells that the row has had all it may have. What a row without a
@@ -162,15 +163,10 @@ pub fn act_row(
     requires { (length s.now ≤ 61440) × (length symbols.now ≤ 65536) × (length layers.now ≤ 65536) × (roomy dump (length rec.old) (rule_of row) ≡ true) }
     ensures { Acts (λ _. rule_of row) dump rec.old (act_row (known_in s.now symbols.now layers.now) d full row.number (rule_of row) (rest_in s.now rest)) rec.new result }
 {
-    act_shape(
-        row,
-        s,
+    let known = Known {
+        spool: s,
         symbols,
         layers,
-        d,
-        full,
-        shape_for(s, is_free(row), rest),
-        dump,
-        rec,
-    )
+    };
+    row_line(row, &known, d, full, rest, dump, rec)
 }

@@ -6,9 +6,10 @@ ghost use Rattle.rules.specs.Base.{split};
 ghost use Rattle.rules.specs.Values.{read_all, read_kind, equal_z};
 ghost use Rattle.rules.specs.RecordTable.{numbers, columns};
 ghost use Rattle.tables.specs.Rows.{part_of, parts_of, across_of, values_of};
-ghost use Rattle.entries.specs.Names.{known_in};
+ghost use Rattle.entries.specs.Names.{known_of};
 ghost use Rattle.entries.specs.Entering.{Puts, done_of, put_val, least_of, plainly, last_of, settled, agree_from};
 
+use crate::Known;
 use crate::by_forms::forms_for;
 use crate::parts::piece;
 use crate::powers::{amount_at, served_power};
@@ -39,15 +40,13 @@ fn least(a: Result<(), u8>, b: Result<(), u8>) -> Result<(), u8>
 fn each(
     parts: u64,
     more: u8,
-    s: &[u8],
-    symbols: &[u32],
-    layers: &[u32],
+    known: &Known<'_>,
     c: &[u8],
     p: usize,
     rec: &mut [i64],
 ) -> Result<(), u8>
-    requires { (length symbols.now ≤ 65536) × (length layers.now ≤ 65536) × (p + more < length rec.old) }
-    ensures { Puts (read_all (known_in s.now symbols.now layers.now) (part_of (parts % 100) ∷ parts_of more (parts / 100)) (split 44 c.now)) (λ v. sets rec.old p (plainly v)) rec.new result }
+    requires { (p + more < length rec.old) }
+    ensures { Puts (read_all (known_of known.now) (part_of (parts % 100) ∷ parts_of more (parts / 100)) (split 44 c.now)) (λ v. sets rec.old p (plainly v)) rec.new result }
 {
     let mut codes = parts;
     let mut left = more;
@@ -55,7 +54,7 @@ fn each(
     let mut at = 0;
     let mut worst = Ok(());
     loop {
-        let a = piece(codes % 100, s, symbols, layers, &c[at..]);
+        let a = piece(codes % 100, known, &c[at..]);
         let v = a.val;
         let e = at + a.end;
         if c.len() <= e {
@@ -102,18 +101,16 @@ fn agree(across: u8, rec: &[i64], p: usize) -> bool
 // A row's values, or those of a circle in a symbol; the rules across them are 11.
 pub(crate) fn values(
     row: Row,
-    s: &[u8],
-    symbols: &[u32],
-    layers: &[u32],
+    known: &Known<'_>,
     c: &[u8],
     p: usize,
     rec: &mut [i64],
 ) -> Result<(), u8>
-    requires { (length symbols.now ≤ 65536) × (length layers.now ≤ 65536) × (length c.now ≤ 61440) × (p + columns (values_of row) ≤ length rec.old) × (settled (values_of row) ≡ true) }
-    ensures { Puts (read_kind (known_in s.now symbols.now layers.now) (values_of row) 0 c.now) (λ v. sets rec.old p (numbers v)) rec.new result }
+    requires { (length c.now ≤ 61440) × (p + columns (values_of row) ≤ length rec.old) × (settled (values_of row) ≡ true) }
+    ensures { Puts (read_kind (known_of known.now) (values_of row) 0 c.now) (λ v. sets rec.old p (numbers v)) rec.new result }
 {
     let f = forms_for(row, c);
-    each(f.parts, f.more, s, symbols, layers, c, p, rec)?;
+    each(f.parts, f.more, known, c, p, rec)?;
     if f.turnless {
         rec[p + TURN] = NO_TURN;
         return Ok(());

@@ -3,14 +3,14 @@ use mathlib.Core.Logic.{◌⊎◌, inl, inr}
 use Rattle.std.proofs.Common.{rules}
 use Rattle.rules.specs.Values.{read_part}
 use Rattle.tables.specs.Rows.{part_of, kind_of, values_of}
-use Rattle.entries.specs.Names.{known_in}
+use Rattle.entries.specs.Names.{known_of}
 use Rattle.entries.proofs.ByKind.{one-put, puts-values}
 use Rattle.entries.proofs.contents.read_kind.Goals as goal
 
 pub returns-in-9 : goal.returns-in-9
 returns-in-9 c =
     let a = c.args in
-    rw c.in-9.is (one-put (read_part (known_in a.s.now a.symbols.now a.layers.now) (part_of a.row.parts) a.c.now) _ a.rec.now _ a.p _ c.single.ensures c.put_value.ensures.0 c.put_value.ensures.1)
+    rw c.in-9.is (one-put (read_part (known_of a.known.now) (part_of a.row.parts) a.c.now) _ a.rec.now _ a.p _ c.single.ensures c.put_value.ensures.0 c.put_value.ensures.1)
 
 pub returns-in-1 : goal.returns-in-1
 returns-in-1 c =
@@ -28,4 +28,4 @@ pub returns-in_default : goal.returns-in_default
 returns-in_default c =
     let a = c.args in
     let e : kind_of a.row ≡ values_of a.row = search rules in
-    puts-values a.row e (known_in a.s.now a.symbols.now a.layers.now) a.at a.c.now a.rec.now _ a.p _ c.values.ensures
+    puts-values a.row e (known_of a.known.now) a.at a.c.now a.rec.now _ a.p _ c.values.ensures

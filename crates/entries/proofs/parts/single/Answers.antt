@@ -1,6 +1,6 @@
 use mathlib.Core.Path.{ap, ◌∙◌}
 use borrow.Author.Tests.{le-ltb}
-use Rattle.entries.specs.Names.{known_in}
+use Rattle.entries.specs.Names.{known_of}
 use Rattle.entries.specs.Parts.{decimal_val}
 use Rattle.entries.proofs.OneValue.{decimal-val}
 use Rattle.entries.proofs.parts.single.Goals as goal
@@ -9,4 +9,4 @@ pub returns-then-code-ge-PART_ANY_SIGN : goal.returns-then-code-ge-PART_ANY_SIGN
 returns-then-code-ge-PART_ANY_SIGN c =
     let a = c.args in
     rw (le-ltb a.code 20 c.if-code-ge-PART_ANY_SIGN.true)
-    (c.measured.ensures ∙ ap (decimal_val a.code) c.decimal.ensures ∙ decimal-val (known_in a.s.now a.symbols.now a.layers.now) a.code a.c.now)
+    (c.measured.ensures ∙ ap (decimal_val a.code) c.decimal.ensures ∙ decimal-val (known_of a.known.now) a.code a.c.now)

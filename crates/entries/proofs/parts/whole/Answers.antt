@@ -15,7 +15,7 @@ returns-in-8 c = rw c.in-8.is (c.limited-in-8.ensures ∙ ap (count_val (in_rang
 pub returns-in-15 : goal.returns-in-15
 returns-in-15 c =
     let a = c.args in
-    rw c.in-15.is (c.numbered.ensures ∙ ap (index_val 13) c.index_of.ensures ∙ index-val 13 a.c.now (names_in a.s.now a.symbols.now))
+    rw c.in-15.is (c.numbered.ensures ∙ ap (index_val 13) c.index_of.ensures ∙ index-val 13 a.c.now (names_in a.known.now.spool.now a.known.now.symbols.now))
 
 pub returns-in_default : goal.returns-in_default
 returns-in_default c = let h = c.limited-in_default.ensures ∙ ap (count_val (in_range 0 9999) 10) c.fixed-in_default.ensures ∙ kind-val c.args.c.now in search rules

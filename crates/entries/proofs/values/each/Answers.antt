@@ -1,12 +1,12 @@
 use mathlib.Core.Path.{◌∙◌}
 use native.Mathlib.Omega.{arith}
 use borrow.Author.Rules.{rules}
-use Rattle.entries.specs.Names.{known_in}
+use Rattle.entries.specs.Names.{known_of}
 use Rattle.entries.proofs.EachValue.{going_start, piece-within, going-few, going-many, going-last, going_more}
 use Rattle.entries.proofs.values.each.Goals as goal
 
 pub loop-v-init : goal.loop-v-init
-loop-v-init c = going_start (known_in c.args.s.now c.args.symbols.now c.args.layers.now) c.args.parts c.args.more c.args.c.now c.args.p c.args.rec.now c.requires.2
+loop-v-init c = going_start (known_of c.args.known.now) c.args.parts c.args.more c.args.c.now c.args.p c.args.rec.now c.requires
 
 pub slice_bounds-piece-count : goal.slice_bounds-piece-count
 slice_bounds-piece-count c = omega (arith, c.loop-v.invariant.within)
@@ -16,9 +16,6 @@ slice_bounds-piece-start c = omega (arith, c.loop-v.invariant.within)
 
 pub slice_bounds-piece-end : goal.slice_bounds-piece-end
 slice_bounds-piece-end c = omega (arith, c.loop-v.invariant.within)
-
-pub piece-a-requires : goal.piece-a-requires
-piece-a-requires c = (c.requires.0, c.requires.1)
 
 pub overflow_add-e : goal.overflow_add-e
 overflow_add-e c = omega (arith, piece-within _ _ _ _ _ _ _ _ _ _ _ _ c.loop-v.invariant _ c.piece-a.ensures)
