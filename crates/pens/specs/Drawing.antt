@@ -13,7 +13,6 @@ use Rattle.pens.specs.Keys.{PlacedCode}
 use Rattle.pens.specs.Shown.{shown}
 use Rattle.pens.specs.Standing.{Pens, Along}
 use Rattle.leaves.specs.declared.NoRoom.{NoRoom}
-use Rattle.leaves.specs.NoRoom.{no_room}
 
 -- a line of a volume: no longer than one may be, of allowed bytes
 abbrev pub FormFits : Form → Type 0

@@ -129,13 +129,10 @@ fn part_closed(pen: Pen) -> Pen
     requires { in_part pen ≡ true }
     ensures { result ≡ part_closed pen }
 {
-    if pen.block == BLOCK_FILE {
-        return at_block(pen, 0, BLOCK_FILE, around(pen.part));
+    match pen.block {
+        BLOCK_FILE => at_block(pen, 0, BLOCK_FILE, around(pen.part)),
+        block => at_block(pen, 0, block, 0),
     }
-    if pen.block == BLOCK_WIRE {
-        return at_block(pen, 0, BLOCK_WIRE, 0);
-    }
-    at_block(pen, 0, BLOCK_PLACED, 0)
 }
 
 // A line `}` in the volume that is the part `body` of the spool from `start` on; from: the place of the line behind the opener of the wire
@@ -156,30 +153,20 @@ pub fn on_close(
     if in_part(pen) {
         return Ok(part_closed(pen));
     }
-    if pen.block == BLOCK_TEXT {
-        return close_rows(
+    match pen.block {
+        BLOCK_TEXT => close_rows(
             by_home(pen.layered, TABLE_LAYER_TEXT, TABLE_SYMBOL_TEXT),
             s,
             pen,
             BLOCK_FIGURES,
             notes,
             out,
-        );
+        ),
+        BLOCK_PLACED => close_rows(TABLE_PLACED, s, pen, BLOCK_FIGURES, notes, out),
+        BLOCK_WIRE => close_wire(s, body, start, from, pen, notes, out),
+        BLOCK_FILE => close_rows(file_table(first, 0), s, pen, BLOCK_TOP, notes, out),
+        BLOCK_DRAWING => close_drawing(s, pen, notes, out),
+        BLOCK_SYMBOL => close_symbol(s, pen, notes, out),
+        _ => shut(pen, around_block(pen), out),
     }
-    if pen.block == BLOCK_PLACED {
-        return close_rows(TABLE_PLACED, s, pen, BLOCK_FIGURES, notes, out);
-    }
-    if pen.block == BLOCK_WIRE {
-        return close_wire(s, body, start, from, pen, notes, out);
-    }
-    if pen.block == BLOCK_FILE {
-        return close_rows(file_table(first, 0), s, pen, BLOCK_TOP, notes, out);
-    }
-    if pen.block == BLOCK_DRAWING {
-        return close_drawing(s, pen, notes, out);
-    }
-    if pen.block == BLOCK_SYMBOL {
-        return close_symbol(s, pen, notes, out);
-    }
-    shut(pen, around_block(pen), out)
 }

@@ -91,16 +91,17 @@ fn noted_row(amid: Opened, number: u8, note: u32) -> Opened
     ensures { result ≡ noted_row amid number note }
 {
     if number == 0 {
-        return Opened {
+        Opened {
             text: true,
             first: note,
-            second: amid.second,
-        };
-    }
-    Opened {
-        text: true,
-        first: amid.first,
-        second: note,
+            ..amid
+        }
+    } else {
+        Opened {
+            text: true,
+            second: note,
+            ..amid
+        }
     }
 }
 
@@ -193,24 +194,15 @@ fn put_pass(
     let mut amid = no_text();
     let mut at = from;
     let mut n = 0;
-    let mut going = true;
-    while going {
-        match look(body, start, at, 1, 1) {
-            None => {
-                going = false;
-            }
-            Some(seen) => {
-                let form = seen.form;
-                let found = row_here(s, amid, form);
-                let Ok(m) = put_line(s, j, amid, form, found, &mut out[n..]) else {
-                    return Err(NoRoom);
-                };
-                n += m;
-                going = !is_over(amid, form);
-                amid = opened_behind(amid, form, found);
-                at = seen.next;
-            }
+    'lines: while let Some(seen) = look(body, start, at, 1, 1) {
+        let form = seen.form;
+        let found = row_here(s, amid, form);
+        n += put_line(s, j, amid, form, found, &mut out[n..])?;
+        if is_over(amid, form) {
+            return Ok(n);
         }
+        amid = opened_behind(amid, form, found);
+        at = seen.next;
     }
     Ok(n)
 }
@@ -250,13 +242,8 @@ pub(crate) fn put_keys(
     ensures { Within out.old out.new result × PrintsKeys s.now body.now start from notes.now out.old out.new result }
 {
     let mut n = 0;
-    let mut j = ROW_DIREC;
-    while (j as usize) < ROWS_WIRE {
-        let Ok(m) = put_lines(s, body, start, from, j, notes, &mut out[n..]) else {
-            return Err(NoRoom);
-        };
-        n += m;
-        j += 1;
+    for j in ROW_DIREC..ROWS_WIRE as u8 {
+        n += put_lines(s, body, start, from, j, notes, &mut out[n..])?;
     }
     Ok(n)
 }

@@ -158,16 +158,12 @@ fn key_top(
     ensures { Kept out.old out.new result × (length notes.new ≡ length notes.old) × RowDone 0 row s.now rest pen notes.old notes.new out.old out.new result }
 {
     forget(notes);
-    if row.number == 0 {
-        return put_at_once(0, row, s, rest, pen, BLOCK_FILE, out);
+    match row.number {
+        0 => put_at_once(0, row, s, rest, pen, BLOCK_FILE, out),
+        1 => put_begun(0, row, s, rest, pen, BLOCK_DRAWING, out),
+        2 => put_at_once(0, row, s, rest, pen, BLOCK_DEFINES, out),
+        _ => put_at_once(0, row, s, rest, pen, BLOCK_ELEMENTS, out),
     }
-    if row.number == 1 {
-        return put_begun(0, row, s, rest, pen, BLOCK_DRAWING, out);
-    }
-    if row.number == 2 {
-        return put_at_once(0, row, s, rest, pen, BLOCK_DEFINES, out);
-    }
-    put_at_once(0, row, s, rest, pen, BLOCK_ELEMENTS, out)
 }
 
 fn key_file(
@@ -247,14 +243,14 @@ fn key_symbol(
     requires { Safe pen out.old × (pen.block ≡ block_symbol) }
     ensures { Kept out.old out.new result × (length notes.new ≡ length notes.old) × RowDone 9 row s.now rest pen notes.old notes.new out.old out.new result }
 {
-    if row.number == 1 {
-        return put_figures(9, row, s, rest, pen, false, out);
+    match row.number {
+        1 => put_figures(9, row, s, rest, pen, false, out),
+        2 => put_at_once(9, row, s, rest, pen, BLOCK_HIDE, out),
+        _ => {
+            note(9, row, rest, notes);
+            Ok(pen)
+        }
     }
-    if row.number == 2 {
-        return put_at_once(9, row, s, rest, pen, BLOCK_HIDE, out);
-    }
-    note(9, row, rest, notes);
-    Ok(pen)
 }
 
 // The block that a figure opens, or that of the figures where it is a line.
@@ -264,16 +260,12 @@ fn figure_block(row: Row) -> u8
     if row.kind != HOLDS_BLOCK {
         return BLOCK_FIGURES;
     }
-    if row.inner == 1 {
-        return BLOCK_CHAIN;
+    match row.inner {
+        1 => BLOCK_CHAIN,
+        2 => BLOCK_TEXT,
+        INNER_WIRE => BLOCK_WIRE,
+        _ => BLOCK_PLACED,
     }
-    if row.inner == 2 {
-        return BLOCK_TEXT;
-    }
-    if row.inner == INNER_WIRE {
-        return BLOCK_WIRE;
-    }
-    BLOCK_PLACED
 }
 
 // A text, a placed symbol or a wire has no notes yet.
@@ -370,41 +362,23 @@ fn row_line(
     requires { Safe pen out.old × (length notes.old ≡ most_rows) × (table ≡ plain_table_of pen table) }
     ensures { Kept out.old out.new result × (length notes.new ≡ length notes.old) × RowDone table row s.now rest pen notes.old notes.new out.old out.new result }
 {
-    if pen.block == BLOCK_FIGURES {
-        return key_figures(table, row, s, rest, pen, notes, out);
+    match pen.block {
+        BLOCK_FIGURES => key_figures(table, row, s, rest, pen, notes, out),
+        BLOCK_CHAIN => put_at_once(table, row, s, rest, pen, BLOCK_CHAIN, out),
+        BLOCK_WIRE => key_wire(table, row, s, rest, pen, notes, out),
+        BLOCK_TEXT => {
+            note(table, row, rest, notes);
+            Ok(pen)
+        }
+        BLOCK_PLACED => key_placed(table, row, s, rest, pen, notes, out),
+        BLOCK_TOP => key_top(row, s, rest, pen, notes, out),
+        BLOCK_FILE => key_file(table, row, s, rest, pen, notes, out),
+        BLOCK_DRAWING => key_drawing(row, s, rest, pen, notes, out),
+        BLOCK_DEFINES => key_defines(row, s, rest, pen, notes, out),
+        BLOCK_SYMBOL => key_symbol(row, s, rest, pen, notes, out),
+        BLOCK_HIDE => put_at_once(table, row, s, rest, pen, BLOCK_HIDE, out),
+        _ => put_figures(table, row, s, rest, pen, true, out),
     }
-    if pen.block == BLOCK_CHAIN {
-        return put_at_once(table, row, s, rest, pen, BLOCK_CHAIN, out);
-    }
-    if pen.block == BLOCK_WIRE {
-        return key_wire(table, row, s, rest, pen, notes, out);
-    }
-    if pen.block == BLOCK_TEXT {
-        note(table, row, rest, notes);
-        return Ok(pen);
-    }
-    if pen.block == BLOCK_PLACED {
-        return key_placed(table, row, s, rest, pen, notes, out);
-    }
-    if pen.block == BLOCK_TOP {
-        return key_top(row, s, rest, pen, notes, out);
-    }
-    if pen.block == BLOCK_FILE {
-        return key_file(table, row, s, rest, pen, notes, out);
-    }
-    if pen.block == BLOCK_DRAWING {
-        return key_drawing(row, s, rest, pen, notes, out);
-    }
-    if pen.block == BLOCK_DEFINES {
-        return key_defines(row, s, rest, pen, notes, out);
-    }
-    if pen.block == BLOCK_SYMBOL {
-        return key_symbol(row, s, rest, pen, notes, out);
-    }
-    if pen.block == BLOCK_HIDE {
-        return put_at_once(table, row, s, rest, pen, BLOCK_HIDE, out);
-    }
-    put_figures(table, row, s, rest, pen, true, out)
 }
 
 pub fn on_key(

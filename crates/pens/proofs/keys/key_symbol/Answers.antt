@@ -1,33 +1,31 @@
+use Rattle.std.proofs.Common.{◌≡◌, eqb, rules}
 use Rattle.pens.specs.Noting.{note_of, notes_from}
 use Rattle.pens.proofs.KeyRows.{noted-long, written, held_back}
 use mathlib.Core.Bool.{false}
-use borrow.Author.Tests.{ne_eqb}
 use mathlib.Core.Path.{refl, sym, ◌∙◌}
 use Prim.Native.Nat.{ℕ, ◌+◌}
 use Rattle.pens.proofs.Writers.{kept-still}
 use Rattle.pens.specs.Moves.{moved, among_figures}
 use Rattle.pens.proofs.keys.key_symbol.Goals as goal
 
-pub returns-then-row-eq1 : goal.returns-then-row-eq1
-returns-then-row-eq1 c =
+pub returns-in-1 : goal.returns-in-1
+returns-in-1 c =
     let args = c.args in
     let pre = c.requires in
-    let the-if1 = c.if-row-eq1 in
     let the-put-figures = c.put_figures in
-    (the-put-figures.ensures.0, refl, λ k q v i g. written _ args.pen args.rest k args.row.number q v _ _ (λ (n : ℕ). among_figures args.pen n false) _ _ _ (rw (pre.1, the-if1.true)) (rw (pre.1, the-if1.true)) (sym (rw (pre.1, the-if1.true))) (the-put-figures.ensures.1 k q v i g))
+    (the-put-figures.ensures.0, refl, λ k q v i g. written _ args.pen args.rest k args.row.number q v _ _ (λ (n : ℕ). among_figures args.pen n false) _ _ _ (rw (pre.1, c.in-1.is)) (rw (pre.1, c.in-1.is)) (sym (rw (pre.1, c.in-1.is))) (the-put-figures.ensures.1 k q v i g))
 
-pub returns-then-row-eq2 : goal.returns-then-row-eq2
-returns-then-row-eq2 c =
+pub returns-in-2 : goal.returns-in-2
+returns-in-2 c =
     let args = c.args in
     let pre = c.requires in
-    let the-if2 = c.if-row-eq2 in
     let the-put-at-once = c.put_at_once in
-    (the-put-at-once.ensures.0, refl, λ k q v i g. written _ args.pen args.rest k args.row.number q v _ _ (λ (n : ℕ). moved args.pen n 6 0) _ _ _ (rw (pre.1, the-if2.true)) (rw (pre.1, the-if2.true)) (sym (rw (pre.1, the-if2.true))) (the-put-at-once.ensures.1 k q v i g))
+    (the-put-at-once.ensures.0, refl, λ k q v i g. written _ args.pen args.rest k args.row.number q v _ _ (λ (n : ℕ). moved args.pen n 6 0) _ _ _ (rw (pre.1, c.in-2.is)) (rw (pre.1, c.in-2.is)) (sym (rw (pre.1, c.in-2.is))) (the-put-at-once.ensures.1 k q v i g))
 
-pub returns : goal.returns
-returns c =
+pub returns-in_default : goal.returns-in_default
+returns-in_default c =
+    let n1 : eqb c.args.row.number 1 ≡ false = search rules in
+    let n2 : eqb c.args.row.number 2 ≡ false = search rules in
     let args = c.args in
     let pre = c.requires in
-    let the-if1 = c.if-row-eq1 in
-    let the-if2 = c.if-row-eq2 in
-    (kept-still _ _ pre.0, noted-long args.notes.now _ (notes_from 9 + args.row.number) (note_of args.rest) c.note.ensures, λ k q v i g. held_back _ args.pen args.rest k args.row.number q v _ _ args.pen _ pre.0.within (rw (pre.1, ne_eqb _ _ the-if1.false, ne_eqb _ _ the-if2.false)) (rw (pre.1, ne_eqb _ _ the-if1.false, ne_eqb _ _ the-if2.false)) (c.note.ensures ∙ sym (rw (pre.1, ne_eqb _ _ the-if1.false, ne_eqb _ _ the-if2.false))))
+    (kept-still _ _ pre.0, noted-long args.notes.now _ (notes_from 9 + args.row.number) (note_of args.rest) c.note.ensures, λ k q v i g. held_back _ args.pen args.rest k args.row.number q v _ _ args.pen _ pre.0.within (rw (pre.1, n1, n2)) (rw (pre.1, n1, n2)) (c.note.ensures ∙ sym (rw (pre.1, n1, n2))))
