@@ -1,5 +1,6 @@
 // One value between commas.
-ghost use Rattle.std.specs.Prelude.{◌≡◌, [], ◌&&◌, ◌<◌, ◌≤◌, pos, length};
+ghost use Rattle.std.specs.Prelude.{◌≡◌, ◌&&◌, ◌<◌, pos, Bool, cond, MatchOption};
+ghost use Rattle.std.specs.Option.{ForSome};
 ghost use Rattle.std.specs.Int.Signed.{le_z};
 ghost use Rattle.rules.specs.Base.{within as in_range};
 ghost use Rattle.rules.specs.Values.{served_symbols, served_wires, equal_z, in_bound, layer_id, read_part};
@@ -32,29 +33,28 @@ const HALF_TURN: i64 = 1800000;
 
 const FULL_TURN: i64 = 3600000;
 
+// A value that was read and keeps a test; one that does not has the test's refusal.
+fn kept<T: Copy, F: FnOnce(T) -> bool>(read: Option<T>, test: F, otherwise: u8) -> Result<T, u8>
+    requires { ForSome read (F.pre test) }
+    ensures { MatchOption read (result ≡ Err 10) (λ x. (b : Bool) × F.post test x b × (result ≡ cond b (Ok x) (Err otherwise))) }
+{
+    let x = read.ok_or(10)?;
+    if test(x) { Ok(x) } else { Err(otherwise) }
+}
+
 // A number within limits; beyond them it has a refusal of its own.
 fn limited(n: Option<u64>, lo: u64, hi: u64, otherwise: u8) -> Result<i64, u8>
     requires { hi < 100000000000 }
     ensures { result ≡ count_val (in_range lo hi) otherwise n }
 {
-    let v = n.ok_or(10)?;
-    if within(lo, hi, v) {
-        Ok(v as i64)
-    } else {
-        Err(otherwise)
-    }
+    Ok(kept(n, |v| within(lo, hi, v), otherwise)? as i64)
 }
 
 // E_sym: 000 to 005 or 011 to 015.
 fn served(n: Option<u64>) -> Result<i64, u8>
     ensures { result ≡ count_val served_symbols 12 n }
 {
-    let v = n.ok_or(10)?;
-    if within(0, 5, v) || within(11, 15, v) {
-        Ok(v as i64)
-    } else {
-        Err(12)
-    }
+    Ok(kept(n, |v| within(0, 5, v) || within(11, 15, v), 12)? as i64)
 }
 
 // E_wire: 000, or each digit within its limits.
@@ -70,12 +70,7 @@ fn is_wire_range(n: u64) -> bool
 fn served_wires(n: Option<u64>) -> Result<i64, u8>
     ensures { result ≡ count_val served_wires 12 n }
 {
-    let v = n.ok_or(10)?;
-    if is_wire_range(v) {
-        Ok(v as i64)
-    } else {
-        Err(12)
-    }
+    Ok(kept(n, is_wire_range, 12)? as i64)
 }
 
 // An angle from 0 on.
@@ -109,8 +104,7 @@ fn bounded(bound: u64, r: Option<Decimal>) -> Result<i64, u8>
 fn exactly(n: i64, r: Option<Decimal>) -> Result<i64, u8>
     ensures { result ≡ reading_val (equal_z n) 10 r }
 {
-    let z = r.ok_or(10)?.value;
-    if z == n { Ok(z) } else { Err(10) }
+    kept(r.map(|d| d.value), |z| z == n, 10)
 }
 
 // A decimal by its form.
