@@ -41,16 +41,12 @@ fn layer_counted(did: Step, tally: &mut [u32]) -> Step
     requires { (length tally.old ≡ tally_length) × ((n : Now) → did ≡ S.Go n → n.block ≡ block_elements → get_or tally.old tally_elements_here 0 + n.figures ≤ 4294967295) }
     ensures { (result ≡ did) × (tally.new ≡ tally_after tally.old did) }
 {
-    match did {
-        Step::Go(n) => {
-            if n.block == BLOCK_ELEMENTS {
-                count_layer(n, tally);
-            }
-            Step::Go(n)
-        }
-        Step::Skip(n) => Step::Skip(n),
-        Step::Stop(k) => Step::Stop(k),
+    if let Step::Go(n) = did
+        && n.block == BLOCK_ELEMENTS
+    {
+        count_layer(n, tally);
     }
+    did
 }
 
 // A symbol that has closed: its name joins the others.
@@ -58,16 +54,12 @@ fn name_kept(did: Step, tally: &mut [u32], symbols: &mut [u32], rec: &[i64]) -> 
     requires { (length tally.old ≡ tally_length) × (length symbols.old ≤ 65536) × (length rec.now ≡ width) × ((n : Now) → did ≡ S.Go n → n.block ≡ block_defines → (get_or tally.old tally_symbols 0 < length symbols.old) × (is_named rec.now ≡ true)) }
     ensures { (result ≡ did) × (tally.new ≡ tally_named tally.old did) × (symbols.new ≡ symbols_named tally.old rec.now symbols.old did) }
 {
-    match did {
-        Step::Go(n) => {
-            if n.block == BLOCK_DEFINES {
-                keep_name(tally, symbols, rec);
-            }
-            Step::Go(n)
-        }
-        Step::Skip(n) => Step::Skip(n),
-        Step::Stop(k) => Step::Stop(k),
+    if let Step::Go(n) = did
+        && n.block == BLOCK_DEFINES
+    {
+        keep_name(tally, symbols, rec);
     }
+    did
 }
 
 // What one line does, by the block that is open: one function for each block, which lends of the scratch what its lines write.
@@ -87,7 +79,6 @@ fn at_top(
     requires { (length s.now ≤ 61440) × Named tally.now symbols.now layers.now × (get_or tally.now tally_layers 0 ≤ length used_all.now) × (length header.old ≡ header_length) × (length t.old ≡ scratch_length) × (x.here.records + 2 ≤ 18446744073709551615) × NumbersReady tally.now serials.now }
     ensures { OnTop s.now x.form x.here tally.now symbols.now layers.now x.class serials.now x.at used_all.now (top_lent marks.old used.old header.old) (top_lent marks.new used.new header.new) t.old t.new result }
 {
-    let form = x.form;
     let ns = tally[TALLY_SYMBOLS] as usize;
     let nl = tally[TALLY_LAYERS] as usize;
     let first = x.at.volume == 1;
@@ -97,7 +88,7 @@ fn at_top(
         &layers[..nl],
         first,
         x.here,
-        form,
+        x.form,
         x.at,
         tally,
         marks,
@@ -122,7 +113,6 @@ fn in_file(
     requires { (length s.now ≤ 61440) × Named tally.old symbols.now layers.now × FileReady (eqb x.at.volume 1) x.here tally.old marks.old header.old }
     ensures { OnFile s.now x.form x.here tally.old symbols.now layers.now following.now x.at tally.new marks.old marks.new header.old header.new result }
 {
-    let form = x.form;
     let ns = tally[TALLY_SYMBOLS] as usize;
     let nl = tally[TALLY_LAYERS] as usize;
     let first = x.at.volume == 1;
@@ -133,7 +123,7 @@ fn in_file(
         following,
         first,
         x.here,
-        form,
+        x.form,
         tally,
         marks,
         header,
@@ -152,7 +142,6 @@ fn in_drawing(
     requires { (length s.now ≤ 61440) × Named tally.now symbols.now layers.now × (length marks.old ≡ most_rows) × (length t.old ≡ scratch_length) }
     ensures { OnDrawing s.now x.form x.here tally.now symbols.now layers.now marks.old marks.new t.old t.new result }
 {
-    let form = x.form;
     let ns = tally[TALLY_SYMBOLS] as usize;
     let arc = tally[TALLY_ARC];
     on_drawing(
@@ -161,7 +150,7 @@ fn in_drawing(
         &layers[..0],
         arc,
         x.here,
-        form,
+        x.form,
         marks,
         &mut t[0..WIDTH],
     )
@@ -178,13 +167,12 @@ fn in_layer_names(
     requires { (length s.now ≤ 61440) × Named tally.old symbols.now layers.old × (length layers.old ≡ 64) × (length t.old ≡ scratch_length) × (x.here.records < 18446744073709551615) }
     ensures { OnNames s.now x.form x.here tally.old symbols.now layers.old x.at tally.new layers.new t.old t.new result }
 {
-    let form = x.form;
     on_layer_names(
         s,
         tally,
         layers,
         x.here,
-        form,
+        x.form,
         x.at,
         &mut t[WIDTH..SECOND_END],
     )
@@ -202,7 +190,6 @@ fn in_defines(
     requires { (length s.now ≤ 61440) × Named tally.now symbols.now layers.now × (length t.old ≡ scratch_length) × (x.here.records < 18446744073709551615) }
     ensures { OnDefines s.now x.form x.here tally.now symbols.now layers.now x.at marks.old marks.new t.old t.new result }
 {
-    let form = x.form;
     let ns = tally[TALLY_SYMBOLS] as usize;
     let nl = tally[TALLY_LAYERS] as usize;
     let define = tally[TALLY_DEFINE_RANGE];
@@ -212,7 +199,7 @@ fn in_defines(
         &layers[..nl],
         define,
         x.here,
-        form,
+        x.form,
         x.at,
         marks,
         &mut t[0..WIDTH],
@@ -231,7 +218,6 @@ fn in_symbol(
     requires { (length s.now ≤ 61440) × Named tally.old symbols.old layers.now × (x.here.block ≡ block_symbol) × SymbolReady s.now x.form x.here tally.old symbols.old layers.now marks.old t.old × (length t.old ≡ scratch_length) }
     ensures { OnSymbol s.now x.form x.here tally.old symbols.old layers.now tally.new symbols.new marks.old marks.new t.old t.new result }
 {
-    let form = x.form;
     let ns = tally[TALLY_SYMBOLS] as usize;
     let nl = tally[TALLY_LAYERS] as usize;
     let define = tally[TALLY_DEFINE_RANGE];
@@ -241,7 +227,7 @@ fn in_symbol(
         &layers[..nl],
         define,
         x.here,
-        form,
+        x.form,
         marks,
         &mut t[0..WIDTH],
     );
@@ -259,7 +245,6 @@ fn in_hide(
     requires { (length s.now ≤ 61440) × Named tally.now symbols.now layers.now × (x.here.points < 4294967295) × (length t.old ≡ scratch_length) × (x.here.records < 18446744073709551615) }
     ensures { OnHide s.now x.form x.here tally.now symbols.now layers.now x.at t.old t.new result }
 {
-    let form = x.form;
     let ns = tally[TALLY_SYMBOLS] as usize;
     let nl = tally[TALLY_LAYERS] as usize;
     on_hide(
@@ -267,7 +252,7 @@ fn in_hide(
         &symbols[..ns],
         &layers[..nl],
         x.here,
-        form,
+        x.form,
         x.at,
         &mut t[WIDTH..SECOND_END],
     )
@@ -285,7 +270,6 @@ fn in_elements(
     requires { (length s.now ≤ 61440) × Named tally.old symbols.now layers.now × (get_or tally.old tally_total 0 + get_or tally.old tally_elements_here 0 ≤ 4294967295) × (length used.old ≡ 64) × (length used_all.old ≡ 64) }
     ensures { OnElements s.now x.form x.here tally.old symbols.now layers.now tally.new used.old used.new used_all.old used_all.new result }
 {
-    let form = x.form;
     let ns = tally[TALLY_SYMBOLS] as usize;
     let nl = tally[TALLY_LAYERS] as usize;
     on_elements(
@@ -293,7 +277,7 @@ fn in_elements(
         &symbols[..ns],
         &layers[..nl],
         x.here,
-        form,
+        x.form,
         tally,
         used,
         used_all,
@@ -313,7 +297,6 @@ fn in_figures(
     requires { (length s.now ≤ 61440) × Named tally.old symbols.now layers.now × (get_or tally.old tally_elements_here 0 + x.here.figures < 4294967295) × (length t.old ≡ scratch_length) × (x.here.records + 2 ≤ 18446744073709551615) }
     ensures { OnFigures s.now x.form x.here tally.old symbols.now layers.now x.class x.at tally.new marks.old marks.new inner.old inner.new t.old t.new result }
 {
-    let form = x.form;
     let ns = tally[TALLY_SYMBOLS] as usize;
     let nl = tally[TALLY_LAYERS] as usize;
     let range = tally[TALLY_SYMBOL_RANGE];
@@ -325,7 +308,7 @@ fn in_figures(
         range,
         wires,
         x.here,
-        form,
+        x.form,
         x.at,
         marks,
         inner,
@@ -346,7 +329,6 @@ fn in_chain(
     requires { (length s.now ≤ 61440) × Named tally.now symbols.now layers.now × (x.here.figures < 4294967295) × (x.here.points < 4294967295) × (length t.old ≡ scratch_length) × (x.here.records < 18446744073709551615) }
     ensures { OnChain s.now x.form x.here tally.now symbols.now layers.now x.at t.old t.new result }
 {
-    let form = x.form;
     let ns = tally[TALLY_SYMBOLS] as usize;
     let nl = tally[TALLY_LAYERS] as usize;
     on_chain(
@@ -354,7 +336,7 @@ fn in_chain(
         &symbols[..ns],
         &layers[..nl],
         x.here,
-        form,
+        x.form,
         x.at,
         &mut t[WIDTH..SCRATCH_LENGTH],
     )
@@ -372,7 +354,6 @@ fn in_text(
     requires { (length s.now ≤ 61440) × Named tally.now symbols.now layers.now × (x.here.figures < 4294967295) × (length inner.old ≡ 2) × (length t.old ≡ scratch_length) }
     ensures { OnText s.now x.form x.here tally.now symbols.now layers.now inner.old inner.new t.old t.new result }
 {
-    let form = x.form;
     let ns = tally[TALLY_SYMBOLS] as usize;
     let nl = tally[TALLY_LAYERS] as usize;
     on_text(
@@ -380,7 +361,7 @@ fn in_text(
         &symbols[..ns],
         &layers[..nl],
         x.here,
-        form,
+        x.form,
         inner,
         &mut t[WIDTH..SECOND_END],
     )
@@ -400,7 +381,6 @@ fn in_placed(
     requires { (length s.now ≤ 61440) × Named tally.old symbols.now layers.now × LentReady (lent tally.old serials.old marks.old inner.old) × (x.here.figures < 4294967295) × (length t.old ≡ scratch_length) }
     ensures { OnPlaced s.now x.form x.here tally.old symbols.now layers.now x.class (lent tally.old serials.old marks.old inner.old) (lent tally.new serials.new marks.new inner.new) t.old t.new result }
 {
-    let form = x.form;
     let ns = tally[TALLY_SYMBOLS] as usize;
     let nl = tally[TALLY_LAYERS] as usize;
     let range = tally[TALLY_SYMBOL_RANGE];
@@ -411,7 +391,7 @@ fn in_placed(
         x.class.symbols,
         range,
         x.here,
-        form,
+        x.form,
         tally,
         serials,
         marks,
@@ -467,12 +447,12 @@ fn head_line(
     requires { HeadFits s.now x.form x.at x.here tally.old symbols.now layers.now serials.now used.old used_all.now marks.old header.old t.old × (x.here.block < block_drawing) }
     ensures { HeadDone s.now x.form x.at x.here x.class following.now tally.old tally.new symbols.now layers.now serials.now used.old used.new used_all.now marks.old marks.new header.old header.new t.old t.new result }
 {
-    if x.here.block == BLOCK_TOP {
-        return at_top(
+    match x.here.block {
+        BLOCK_TOP => at_top(
             s, x, tally, symbols, layers, serials, used, used_all, marks, header, t,
-        );
+        ),
+        _ => in_file(s, following, x, tally, symbols, layers, marks, header),
     }
-    in_file(s, following, x, tally, symbols, layers, marks, header)
 }
 
 // A line in DRAWING_FORMAT or in SYMBOL_DEFINE, but for the figures of a symbol.
@@ -488,19 +468,13 @@ fn sheet_line(
     requires { SheetFits s.now x.form x.at x.here tally.old symbols.old layers.old marks.old t.old × (block_drawing ≤ x.here.block) × (x.here.block < block_elements) }
     ensures { SheetDone s.now x.form x.at x.here tally.old tally.new symbols.old symbols.new layers.old layers.new marks.old marks.new t.old t.new result }
 {
-    if x.here.block == BLOCK_DRAWING {
-        return in_drawing(s, x, tally, symbols, layers, marks, t);
+    match x.here.block {
+        BLOCK_DRAWING => in_drawing(s, x, tally, symbols, layers, marks, t),
+        BLOCK_LAYER_NAMES => in_layer_names(s, x, tally, symbols, layers, t),
+        BLOCK_DEFINES => in_defines(s, x, tally, symbols, layers, marks, t),
+        BLOCK_SYMBOL => in_symbol(s, x, tally, symbols, layers, marks, t),
+        _ => in_hide(s, x, tally, symbols, layers, t),
     }
-    if x.here.block == BLOCK_LAYER_NAMES {
-        return in_layer_names(s, x, tally, symbols, layers, t);
-    }
-    if x.here.block == BLOCK_DEFINES {
-        return in_defines(s, x, tally, symbols, layers, marks, t);
-    }
-    if x.here.block == BLOCK_SYMBOL {
-        return in_symbol(s, x, tally, symbols, layers, marks, t);
-    }
-    in_hide(s, x, tally, symbols, layers, t)
 }
 
 // A line among figures, or in one.
@@ -518,22 +492,14 @@ fn figure_line(
     requires { FiguresFit s.now x.form x.at x.here tally.old symbols.now layers.now serials.old marks.old inner.old t.old × (block_figures ≤ x.here.block) }
     ensures { FiguresDone s.now x.form x.at x.here x.class tally.old tally.new symbols.now layers.now serials.old serials.new marks.old marks.new inner.old inner.new t.old t.new result }
 {
-    if x.here.block == BLOCK_FIGURES {
-        return in_figures(s, x, tally, symbols, layers, marks, inner, t);
+    match x.here.block {
+        BLOCK_FIGURES => in_figures(s, x, tally, symbols, layers, marks, inner, t),
+        BLOCK_CHAIN => in_chain(s, x, tally, symbols, layers, t),
+        BLOCK_TEXT => in_text(s, x, tally, symbols, layers, inner, t),
+        BLOCK_PLACED => in_placed(s, x, tally, symbols, layers, serials, marks, inner, t),
+        BLOCK_WIRE => in_wire(s, x, tally, symbols, layers, serials, marks, inner, t),
+        _ => Step::Stop(9),
     }
-    if x.here.block == BLOCK_CHAIN {
-        return in_chain(s, x, tally, symbols, layers, t);
-    }
-    if x.here.block == BLOCK_TEXT {
-        return in_text(s, x, tally, symbols, layers, inner, t);
-    }
-    if x.here.block == BLOCK_PLACED {
-        return in_placed(s, x, tally, symbols, layers, serials, marks, inner, t);
-    }
-    if x.here.block == BLOCK_WIRE {
-        return in_wire(s, x, tally, symbols, layers, serials, marks, inner, t);
-    }
-    Step::Stop(9)
 }
 
 // What one line does, as the definitions say.
@@ -555,17 +521,15 @@ pub(crate) fn step(
     requires { LineReady x.class s.now x.at.volume x.form x.at (desk x.here tally.old symbols.old layers.old serials.old used.old used_all.old marks.old inner.old header.old scratch.old) following.now }
     ensures { LinePromise x.class s.now x.at.volume x.form x.at (desk x.here tally.old symbols.old layers.old serials.old used.old used_all.old marks.old inner.old header.old scratch.old) (desk x.here tally.new symbols.new layers.new serials.new used.new used_all.new marks.new inner.new header.new scratch.new) following.now result }
 {
-    if x.here.block == BLOCK_ELEMENTS {
-        return in_elements(s, x, tally, symbols, layers, used, used_all);
-    }
-    if x.here.block > BLOCK_ELEMENTS {
-        return figure_line(s, x, tally, symbols, layers, serials, marks, inner, scratch);
-    }
-    if x.here.block < BLOCK_DRAWING {
-        return head_line(
+    match x.here.block {
+        ..BLOCK_DRAWING => head_line(
             s, following, x, tally, symbols, layers, serials, used, used_all, marks, header,
             scratch,
-        );
+        ),
+        BLOCK_DRAWING..BLOCK_ELEMENTS => sheet_line(s, x, tally, symbols, layers, marks, scratch),
+        BLOCK_ELEMENTS => in_elements(s, x, tally, symbols, layers, used, used_all),
+        BLOCK_FIGURES.. => figure_line(
+            s, x, tally, symbols, layers, serials, marks, inner, scratch,
+        ),
     }
-    sheet_line(s, x, tally, symbols, layers, marks, scratch)
 }

@@ -1,6 +1,6 @@
 // The lines of a volume, one after the other.
 ghost use Rattle.std.specs.Prelude.{◌≡◌};
-ghost use Rattle.steps.specs.VolumeLines.{eof_form, close_form, ignored_form, after_element, completes_of, next_now, last_step};
+ghost use Rattle.steps.specs.VolumeLines.{after_element, completes_of, next_now, last_step};
 ghost use Rattle.standing.specs.Reading.{through_of, stop_of, volume_desk, VolumeReady, VolumePromise};
 
 use crate::line::step;
@@ -15,52 +15,10 @@ use groundwork::walk::next_line;
 use leaves::truth::both;
 use rules::{Class, LineForm, Refusal};
 
-fn is_eof(form: LineForm) -> bool
-    ensures { result ≡ eof_form form }
-{
-    match form {
-        LineForm::Ignored => false,
-        LineForm::Close => false,
-        LineForm::Eof => true,
-        LineForm::Opens(_) => false,
-        LineForm::Equals(_) => false,
-        LineForm::Refused(_) => false,
-    }
-}
-
-fn is_close(form: LineForm) -> bool
-    ensures { result ≡ close_form form }
-{
-    match form {
-        LineForm::Ignored => false,
-        LineForm::Close => true,
-        LineForm::Eof => false,
-        LineForm::Opens(_) => false,
-        LineForm::Equals(_) => false,
-        LineForm::Refused(_) => false,
-    }
-}
-
-fn is_ignored(form: LineForm) -> bool
-    ensures { result ≡ ignored_form form }
-{
-    match form {
-        LineForm::Ignored => true,
-        LineForm::Close => false,
-        LineForm::Eof => false,
-        LineForm::Opens(_) => false,
-        LineForm::Equals(_) => false,
-        LineForm::Refused(_) => false,
-    }
-}
-
 fn after_element(here: Now) -> bool
     ensures { result ≡ after_element here }
 {
-    if here.block != BLOCK_TOP {
-        return false;
-    }
-    here.part == TURN_EOF
+    here.block == BLOCK_TOP && here.part == TURN_EOF
 }
 
 // Is the volume complete after this line? By its structure: in the last volume EOF after ELEMENT, in others ELEMENT's end.
@@ -68,28 +26,23 @@ fn completes(here: Now, form: LineForm, last: bool) -> bool
     ensures { result ≡ completes_of here form last }
 {
     if last {
-        if !after_element(here) {
-            return false;
-        }
-        return is_eof(form);
+        return after_element(here) && matches!(form, LineForm::Eof);
     }
     if here.block == BLOCK_ELEMENTS {
-        return is_close(form);
+        return matches!(form, LineForm::Close);
     }
-    if !after_element(here) {
-        return false;
-    }
-    is_ignored(form)
+    after_element(here) && matches!(form, LineForm::Ignored)
 }
 
 // The next volume begins anew.
 fn next_volume(here: Now) -> Now
     ensures { result ≡ next_now here }
 {
-    if here.block != BLOCK_TOP {
-        return here;
+    if here.block == BLOCK_TOP {
+        at_block(here, BLOCK_TOP, TURN_FILE)
+    } else {
+        here
     }
-    at_block(here, BLOCK_TOP, TURN_FILE)
 }
 
 // The last line of a volume: 9 where it is not complete, or the line's own number where that is smaller.
@@ -97,22 +50,9 @@ fn at_last(complete: bool, did: Step) -> Step
     ensures { result ≡ last_step complete did }
 {
     match did {
-        Step::Go(n) => {
-            if complete {
-                return Step::Go(next_volume(n));
-            }
-            Step::Stop(9)
-        }
-        Step::Skip(_) => Step::Stop(9),
-        Step::Stop(k) => {
-            if complete {
-                return Step::Stop(k);
-            }
-            if k <= 9 {
-                return Step::Stop(k);
-            }
-            Step::Stop(9)
-        }
+        Step::Go(n) if complete => Step::Go(next_volume(n)),
+        Step::Stop(k) if complete || k <= 9 => Step::Stop(k),
+        _ => Step::Stop(9),
     }
 }
 
@@ -120,9 +60,9 @@ fn refused(v: Volume, number: u8, line: u32) -> Result<Now, Refusal>
     ensures { result ≡ stop_of v number line }
 {
     Err(Refusal {
-        number: number,
+        number,
         volume: v.number,
-        line: line,
+        line,
     })
 }
 
@@ -168,30 +108,28 @@ pub fn read_volume(
     let mut scratch = [0i64; SCRATCH_LENGTH];
     let mut here = begin;
     let mut own = 0;
-    let mut at = v.at;
-    let mut line = 0;
+    let mut pos = Pos { at: v.at, line: 0 };
     let first = v.number == 1;
     let last_volume = following.len() == 0;
     loop {
-        let seen = next_line(body, v, Pos { at: at, line: line });
-        let form = seen.form;
-        if seen.next == at {
-            return refused(v, 9, line);
+        let seen = next_line(body, v, pos);
+        if seen.next == pos.at {
+            return refused(v, 9, pos.line);
         }
-        let complete = completes(here, form, last_volume);
+        let complete = completes(here, seen.form, last_volume);
         let place = Where {
             volume: v.number,
-            line: line + 1,
+            line: pos.line + 1,
             ends: both(last_volume, seen.last),
         };
         let answer = step(
             s,
             following,
             LineAt {
-                here: here,
-                form: form,
+                here,
+                form: seen.form,
                 at: place,
-                class: class,
+                class,
             },
             tally,
             symbols,
@@ -205,10 +143,12 @@ pub fn read_volume(
             &mut scratch,
         );
         let did = within(limit, answer);
-        at = seen.next;
-        line += 1;
+        pos = Pos {
+            at: seen.next,
+            line: pos.line + 1,
+        };
         if seen.last {
-            return closed(v, line, at_last(complete, did));
+            return closed(v, pos.line, at_last(complete, did));
         }
         match did {
             Step::Go(n) => {
@@ -218,19 +158,10 @@ pub fn read_volume(
             }
             Step::Skip(n) => {
                 here = n;
-                let left = skip_block(s, body, v, Pos { at: at, line: line }, SKIPPED_DEPTH);
-                match left {
-                    Ok(q) => {
-                        at = q.at;
-                        line = q.line;
-                    }
-                    Err(f) => {
-                        return Err(f);
-                    }
-                }
+                pos = skip_block(s, body, v, pos, SKIPPED_DEPTH)?;
             }
             Step::Stop(k) => {
-                return refused(v, k, line);
+                return refused(v, k, pos.line);
             }
         }
     }
