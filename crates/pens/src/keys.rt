@@ -6,7 +6,7 @@ ghost use Rattle.pens.specs.Texts.{Safe};
 ghost use Rattle.pens.specs.Moves.{moved, begun, among_figures, is_element, figure_block, file_table_of, figure_table_of, table_for};
 ghost use Rattle.pens.specs.Noting.{note_of, notes_from, figure_notes};
 ghost use Rattle.pens.specs.Keys.{is_brace, NamedLine};
-ghost use Rattle.pens.specs.KeyWriting.{Kept, DrawsRow, RowDone, KeyOrName, plain_table_of};
+ghost use Rattle.pens.specs.KeyWriting.{Kept, DrawsRow, RowDone, KeyOrName};
 ghost use Rattle.account.specs.Numbering.{block_top, block_file, block_drawing, block_defines, block_symbol, block_figures, block_placed, block_wire, most_rows};
 
 use crate::Pen;
@@ -30,6 +30,15 @@ use tables::{
     TABLE_PLACED_TEXT, TABLE_RANGE, TABLE_SINGLE_WIRED_LAYER, TABLE_SYM, TABLE_SYMBOL,
     TABLE_SYMBOL_POINTS, TABLE_SYMBOL_TEXT, TABLE_TOP, TABLE_WIRE, TABLE_WIRED_LAYER,
 };
+
+// A line of the spool s with a key, by its row in the table of the open block, and what follows the key.
+#[derive(Clone, Copy)]
+struct Line<'a> {
+    table: u8,
+    row: Row,
+    s: &'a [u8],
+    rest: Rest,
+}
 
 fn is_brace(rest: Rest) -> bool
     ensures { result ≡ is_brace rest }
@@ -86,101 +95,62 @@ fn table_of(first: bool, pen: Pen, rest: Rest) -> u8
 }
 
 // A line that is written at once, and the block that is open behind it.
-fn put_at_once(
-    table: u8,
-    row: Row,
-    s: &[u8],
-    rest: Rest,
-    pen: Pen,
-    block: u8,
-    out: &mut [u8],
-) -> Result<Pen, NoRoom>
+fn put_at_once(line: &Line<'_>, pen: Pen, block: u8, out: &mut [u8]) -> Result<Pen, NoRoom>
     requires { Safe pen out.old }
-    ensures { Kept out.old out.new result × DrawsRow table row s.now rest pen (λ n. moved pen n block 0) out.old out.new result }
+    ensures { Kept out.old out.new result × DrawsRow line.now.table line.now.row line.now.s.now line.now.rest pen (λ n. moved pen n block 0) out.old out.new result }
 {
-    let n = put_row(table, row, s, rest, &mut out[pen.at..])?;
+    let n = put_row(line.table, line.row, line.s, line.rest, &mut out[pen.at..])?;
     Ok(at_block(pen, n, block, 0))
 }
 
 // A line that opens a block whose inner lines are written before its own.
-fn put_begun(
-    table: u8,
-    row: Row,
-    s: &[u8],
-    rest: Rest,
-    pen: Pen,
-    block: u8,
-    out: &mut [u8],
-) -> Result<Pen, NoRoom>
+fn put_begun(line: &Line<'_>, pen: Pen, block: u8, out: &mut [u8]) -> Result<Pen, NoRoom>
     requires { Safe pen out.old }
-    ensures { Kept out.old out.new result × DrawsRow table row s.now rest pen (λ n. begun pen n block) out.old out.new result }
+    ensures { Kept out.old out.new result × DrawsRow line.now.table line.now.row line.now.s.now line.now.rest pen (λ n. begun pen n block) out.old out.new result }
 {
-    let n = put_row(table, row, s, rest, &mut out[pen.at..])?;
+    let n = put_row(line.table, line.row, line.s, line.rest, &mut out[pen.at..])?;
     Ok(begun(pen, n, block))
 }
 
 // A line behind which figures stand.
-fn put_figures(
-    table: u8,
-    row: Row,
-    s: &[u8],
-    rest: Rest,
-    pen: Pen,
-    layered: bool,
-    out: &mut [u8],
-) -> Result<Pen, NoRoom>
+fn put_figures(line: &Line<'_>, pen: Pen, layered: bool, out: &mut [u8]) -> Result<Pen, NoRoom>
     requires { Safe pen out.old }
-    ensures { Kept out.old out.new result × DrawsRow table row s.now rest pen (λ n. among_figures pen n layered) out.old out.new result }
+    ensures { Kept out.old out.new result × DrawsRow line.now.table line.now.row line.now.s.now line.now.rest pen (λ n. among_figures pen n layered) out.old out.new result }
 {
-    let n = put_row(table, row, s, rest, &mut out[pen.at..])?;
+    let n = put_row(line.table, line.row, line.s, line.rest, &mut out[pen.at..])?;
     Ok(among_figures(pen, n, layered))
 }
 
 // A row's line noted.
-fn note(table: u8, row: Row, rest: Rest, notes: &mut [u32])
-    ensures { notes.new ≡ set notes.old (notes_from table + row.number) (note_of rest) }
+fn note(line: &Line<'_>, notes: &mut [u32])
+    ensures { notes.new ≡ set notes.old (notes_from line.now.table + line.now.row.number) (note_of line.now.rest) }
 {
-    let i = notes_from(table) + row.number as usize;
+    let i = notes_from(line.table) + line.row.number as usize;
     if i < notes.len() {
-        notes[i] = note_of(rest);
+        notes[i] = note_of(line.rest);
     }
 }
 
-fn key_top(
-    row: Row,
-    s: &[u8],
-    rest: Rest,
-    pen: Pen,
-    notes: &mut [u32],
-    out: &mut [u8],
-) -> Result<Pen, NoRoom>
+fn key_top(line: &Line<'_>, pen: Pen, notes: &mut [u32], out: &mut [u8]) -> Result<Pen, NoRoom>
     requires { Safe pen out.old × (pen.block ≡ block_top) }
-    ensures { Kept out.old out.new result × (length notes.new ≡ length notes.old) × RowDone 0 row s.now rest pen notes.old notes.new out.old out.new result }
+    ensures { Kept out.old out.new result × (length notes.new ≡ length notes.old) × RowDone line.now.table line.now.row line.now.s.now line.now.rest pen notes.old notes.new out.old out.new result }
 {
     forget(notes);
-    match row.number {
-        0 => put_at_once(0, row, s, rest, pen, BLOCK_FILE, out),
-        1 => put_begun(0, row, s, rest, pen, BLOCK_DRAWING, out),
-        2 => put_at_once(0, row, s, rest, pen, BLOCK_DEFINES, out),
-        _ => put_at_once(0, row, s, rest, pen, BLOCK_ELEMENTS, out),
+    match line.row.number {
+        0 => put_at_once(line, pen, BLOCK_FILE, out),
+        1 => put_begun(line, pen, BLOCK_DRAWING, out),
+        2 => put_at_once(line, pen, BLOCK_DEFINES, out),
+        _ => put_at_once(line, pen, BLOCK_ELEMENTS, out),
     }
 }
 
-fn key_file(
-    table: u8,
-    row: Row,
-    s: &[u8],
-    rest: Rest,
-    pen: Pen,
-    notes: &mut [u32],
-    out: &[u8],
-) -> Result<Pen, NoRoom>
+fn key_file(line: &Line<'_>, pen: Pen, notes: &mut [u32], out: &[u8]) -> Result<Pen, NoRoom>
     requires { Safe pen out.now × (pen.block ≡ block_file) }
-    ensures { Kept out.now out.now result × (length notes.new ≡ length notes.old) × RowDone table row s.now rest pen notes.old notes.new out.now out.now result }
+    ensures { Kept out.now out.now result × (length notes.new ≡ length notes.old) × RowDone line.now.table line.now.row line.now.s.now line.now.rest pen notes.old notes.new out.now out.now result }
 {
-    note(table, row, rest, notes);
-    if opens(s, row, rest) {
-        return Ok(at_block(pen, 0, BLOCK_FILE, row.inner));
+    note(line, notes);
+    if opens(line.s, line.row, line.rest) {
+        return Ok(at_block(pen, 0, BLOCK_FILE, line.row.inner));
     }
     Ok(pen)
 }
@@ -188,21 +158,14 @@ fn key_file(
 // The row of DRAWING_FORMAT that opens a block.
 const ROW_LAYER_NAME: u8 = 7;
 
-fn key_drawing(
-    row: Row,
-    s: &[u8],
-    rest: Rest,
-    pen: Pen,
-    notes: &mut [u32],
-    out: &mut [u8],
-) -> Result<Pen, NoRoom>
+fn key_drawing(line: &Line<'_>, pen: Pen, notes: &mut [u32], out: &mut [u8]) -> Result<Pen, NoRoom>
     requires { Safe pen out.old × (pen.block ≡ block_drawing) }
-    ensures { Kept out.old out.new result × (length notes.new ≡ length notes.old) × RowDone 7 row s.now rest pen notes.old notes.new out.old out.new result }
+    ensures { Kept out.old out.new result × (length notes.new ≡ length notes.old) × RowDone line.now.table line.now.row line.now.s.now line.now.rest pen notes.old notes.new out.old out.new result }
 {
-    if row.number == ROW_LAYER_NAME {
-        return put_at_once(7, row, s, rest, pen, BLOCK_LAYER_NAMES, out);
+    if line.row.number == ROW_LAYER_NAME {
+        return put_at_once(line, pen, BLOCK_LAYER_NAMES, out);
     }
-    note(7, row, rest, notes);
+    note(line, notes);
     Ok(pen)
 }
 
@@ -214,40 +177,26 @@ fn key_names(key: Span, s: &[u8], rest: Rest, pen: Pen, out: &mut [u8]) -> Resul
     Ok(at_block(pen, n, BLOCK_LAYER_NAMES, 0))
 }
 
-fn key_defines(
-    row: Row,
-    s: &[u8],
-    rest: Rest,
-    pen: Pen,
-    notes: &mut [u32],
-    out: &mut [u8],
-) -> Result<Pen, NoRoom>
+fn key_defines(line: &Line<'_>, pen: Pen, notes: &mut [u32], out: &mut [u8]) -> Result<Pen, NoRoom>
     requires { Safe pen out.old × (pen.block ≡ block_defines) }
-    ensures { Kept out.old out.new result × (length notes.new ≡ length notes.old) × RowDone 8 row s.now rest pen notes.old notes.new out.old out.new result }
+    ensures { Kept out.old out.new result × (length notes.new ≡ length notes.old) × RowDone line.now.table line.now.row line.now.s.now line.now.rest pen notes.old notes.new out.old out.new result }
 {
-    if row.number == 0 {
-        return put_at_once(8, row, s, rest, pen, BLOCK_DEFINES, out);
+    if line.row.number == 0 {
+        return put_at_once(line, pen, BLOCK_DEFINES, out);
     }
     forget(notes);
-    put_begun(8, row, s, rest, pen, BLOCK_SYMBOL, out)
+    put_begun(line, pen, BLOCK_SYMBOL, out)
 }
 
-fn key_symbol(
-    row: Row,
-    s: &[u8],
-    rest: Rest,
-    pen: Pen,
-    notes: &mut [u32],
-    out: &mut [u8],
-) -> Result<Pen, NoRoom>
+fn key_symbol(line: &Line<'_>, pen: Pen, notes: &mut [u32], out: &mut [u8]) -> Result<Pen, NoRoom>
     requires { Safe pen out.old × (pen.block ≡ block_symbol) }
-    ensures { Kept out.old out.new result × (length notes.new ≡ length notes.old) × RowDone 9 row s.now rest pen notes.old notes.new out.old out.new result }
+    ensures { Kept out.old out.new result × (length notes.new ≡ length notes.old) × RowDone line.now.table line.now.row line.now.s.now line.now.rest pen notes.old notes.new out.old out.new result }
 {
-    match row.number {
-        1 => put_figures(9, row, s, rest, pen, false, out),
-        2 => put_at_once(9, row, s, rest, pen, BLOCK_HIDE, out),
+    match line.row.number {
+        1 => put_figures(line, pen, false, out),
+        2 => put_at_once(line, pen, BLOCK_HIDE, out),
         _ => {
-            note(9, row, rest, notes);
+            note(line, notes);
             Ok(pen)
         }
     }
@@ -283,37 +232,21 @@ fn forget_for(block: u8, notes: &mut [u32])
     }
 }
 
-fn key_figures(
-    table: u8,
-    row: Row,
-    s: &[u8],
-    rest: Rest,
-    pen: Pen,
-    notes: &mut [u32],
-    out: &mut [u8],
-) -> Result<Pen, NoRoom>
+fn key_figures(line: &Line<'_>, pen: Pen, notes: &mut [u32], out: &mut [u8]) -> Result<Pen, NoRoom>
     requires { Safe pen out.old × (pen.block ≡ block_figures) × (length notes.old ≡ most_rows) }
-    ensures { Kept out.old out.new result × (length notes.new ≡ length notes.old) × RowDone table row s.now rest pen notes.old notes.new out.old out.new result }
+    ensures { Kept out.old out.new result × (length notes.new ≡ length notes.old) × RowDone line.now.table line.now.row line.now.s.now line.now.rest pen notes.old notes.new out.old out.new result }
 {
-    let block = figure_block(row);
+    let block = figure_block(line.row);
     forget_for(block, notes);
-    put_at_once(table, row, s, rest, pen, block, out)
+    put_at_once(line, pen, block, out)
 }
 
-fn key_placed(
-    table: u8,
-    row: Row,
-    s: &[u8],
-    rest: Rest,
-    pen: Pen,
-    notes: &mut [u32],
-    out: &[u8],
-) -> Result<Pen, NoRoom>
+fn key_placed(line: &Line<'_>, pen: Pen, notes: &mut [u32], out: &[u8]) -> Result<Pen, NoRoom>
     requires { Safe pen out.now × (pen.block ≡ block_placed) }
-    ensures { Kept out.now out.now result × (length notes.new ≡ length notes.old) × RowDone table row s.now rest pen notes.old notes.new out.now out.now result }
+    ensures { Kept out.now out.now result × (length notes.new ≡ length notes.old) × RowDone line.now.table line.now.row line.now.s.now line.now.rest pen notes.old notes.new out.now out.now result }
 {
-    note(table, row, rest, notes);
-    if row.kind == HOLDS_BLOCK {
+    note(line, notes);
+    if line.row.kind == HOLDS_BLOCK {
         return Ok(at_block(pen, 0, BLOCK_PLACED, 1));
     }
     Ok(pen)
@@ -327,57 +260,41 @@ fn at_once_in_wire(pen: Pen, row: Row) -> bool
 }
 
 // Of other rows it is noted that they stand there: the lines of those that repeat, and of the wire's texts, are found again when it closes.
-fn key_wire(
-    table: u8,
-    row: Row,
-    s: &[u8],
-    rest: Rest,
-    pen: Pen,
-    notes: &mut [u32],
-    out: &mut [u8],
-) -> Result<Pen, NoRoom>
+fn key_wire(line: &Line<'_>, pen: Pen, notes: &mut [u32], out: &mut [u8]) -> Result<Pen, NoRoom>
     requires { Safe pen out.old × (pen.block ≡ block_wire) }
-    ensures { Kept out.old out.new result × (length notes.new ≡ length notes.old) × RowDone table row s.now rest pen notes.old notes.new out.old out.new result }
+    ensures { Kept out.old out.new result × (length notes.new ≡ length notes.old) × RowDone line.now.table line.now.row line.now.s.now line.now.rest pen notes.old notes.new out.old out.new result }
 {
-    if at_once_in_wire(pen, row) {
-        return put_at_once(table, row, s, rest, pen, BLOCK_WIRE, out);
+    if at_once_in_wire(pen, line.row) {
+        return put_at_once(line, pen, BLOCK_WIRE, out);
     }
-    note(table, row, rest, notes);
-    if row.kind == HOLDS_BLOCK {
+    note(line, notes);
+    if line.row.kind == HOLDS_BLOCK {
         return Ok(at_block(pen, 0, BLOCK_WIRE, 1));
     }
     Ok(pen)
 }
 
 // A line with a key whose row was found, in any block but `layer_name`.
-fn row_line(
-    table: u8,
-    row: Row,
-    s: &[u8],
-    rest: Rest,
-    pen: Pen,
-    notes: &mut [u32],
-    out: &mut [u8],
-) -> Result<Pen, NoRoom>
-    requires { Safe pen out.old × (length notes.old ≡ most_rows) × (table ≡ plain_table_of pen table) }
-    ensures { Kept out.old out.new result × (length notes.new ≡ length notes.old) × RowDone table row s.now rest pen notes.old notes.new out.old out.new result }
+fn row_line(line: &Line<'_>, pen: Pen, notes: &mut [u32], out: &mut [u8]) -> Result<Pen, NoRoom>
+    requires { Safe pen out.old × (length notes.old ≡ most_rows) }
+    ensures { Kept out.old out.new result × (length notes.new ≡ length notes.old) × RowDone line.now.table line.now.row line.now.s.now line.now.rest pen notes.old notes.new out.old out.new result }
 {
     match pen.block {
-        BLOCK_FIGURES => key_figures(table, row, s, rest, pen, notes, out),
-        BLOCK_CHAIN => put_at_once(table, row, s, rest, pen, BLOCK_CHAIN, out),
-        BLOCK_WIRE => key_wire(table, row, s, rest, pen, notes, out),
+        BLOCK_FIGURES => key_figures(line, pen, notes, out),
+        BLOCK_CHAIN => put_at_once(line, pen, BLOCK_CHAIN, out),
+        BLOCK_WIRE => key_wire(line, pen, notes, out),
         BLOCK_TEXT => {
-            note(table, row, rest, notes);
+            note(line, notes);
             Ok(pen)
         }
-        BLOCK_PLACED => key_placed(table, row, s, rest, pen, notes, out),
-        BLOCK_TOP => key_top(row, s, rest, pen, notes, out),
-        BLOCK_FILE => key_file(table, row, s, rest, pen, notes, out),
-        BLOCK_DRAWING => key_drawing(row, s, rest, pen, notes, out),
-        BLOCK_DEFINES => key_defines(row, s, rest, pen, notes, out),
-        BLOCK_SYMBOL => key_symbol(row, s, rest, pen, notes, out),
-        BLOCK_HIDE => put_at_once(table, row, s, rest, pen, BLOCK_HIDE, out),
-        _ => put_figures(table, row, s, rest, pen, true, out),
+        BLOCK_PLACED => key_placed(line, pen, notes, out),
+        BLOCK_TOP => key_top(line, pen, notes, out),
+        BLOCK_FILE => key_file(line, pen, notes, out),
+        BLOCK_DRAWING => key_drawing(line, pen, notes, out),
+        BLOCK_DEFINES => key_defines(line, pen, notes, out),
+        BLOCK_SYMBOL => key_symbol(line, pen, notes, out),
+        BLOCK_HIDE => put_at_once(line, pen, BLOCK_HIDE, out),
+        _ => put_figures(line, pen, true, out),
     }
 }
 
@@ -399,6 +316,14 @@ pub fn on_key(
     let table = table_of(first, pen, rest);
     match row_of(table, part(s, key)) {
         None => Ok(pen),
-        Some(row) => row_line(table, row, s, rest, pen, notes, out),
+        Some(row) => {
+            let line = Line {
+                table,
+                row,
+                s,
+                rest,
+            };
+            row_line(&line, pen, notes, out)
+        }
     }
 }

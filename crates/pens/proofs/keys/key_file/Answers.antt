@@ -14,11 +14,11 @@ returns-then-opens c =
     let args = c.args in
     let pre = c.requires in
     let the-note = c.note in
-    (kept-moved _ args.pen _ _ _ pre.0 c.at_block.ensures, noted-long args.notes.now _ (notes_from args.table + args.row.number) (note_of args.rest) the-note.ensures, λ k q v i g. held_back _ args.pen args.rest k args.row.number q v _ _ c.at_block.result _ pre.0.within (rw pre.1) (file_pen_lem args.pen args.row.number q.holds (opens_block q.holds v) (inner_of q.holds) 0 pre.1 ∙ ap (λ (b : Bool). file_pen args.pen b (inner_of q.holds)) (sym (c.opens.ensures k q v i.rule g) ∙ c.if-opens.true) ∙ ap (moved args.pen 0 1) (opened-inner args.row q v i.rule (sym (c.opens.ensures k q v i.rule g) ∙ c.if-opens.true)) ∙ sym c.at_block.ensures) (the-note.ensures ∙ sym (rw pre.1)))
+    (kept-moved _ args.pen _ _ _ pre.0 c.at_block.ensures, noted-long args.notes.now _ (notes_from args.line.now.table + args.line.now.row.number) (note_of args.line.now.rest) the-note.ensures, λ k q v i g. held_back _ args.pen args.line.now.rest k args.line.now.row.number q v _ _ c.at_block.result _ pre.0.within (rw pre.1) (file_pen_lem args.pen args.line.now.row.number q.holds (opens_block q.holds v) (inner_of q.holds) 0 pre.1 ∙ ap (λ (b : Bool). file_pen args.pen b (inner_of q.holds)) (sym (c.opens.ensures k q v i.rule g) ∙ c.if-opens.true) ∙ ap (moved args.pen 0 1) (opened-inner args.line.now.row q v i.rule (sym (c.opens.ensures k q v i.rule g) ∙ c.if-opens.true)) ∙ sym c.at_block.ensures) (the-note.ensures ∙ sym (rw pre.1)))
 
 pub returns : goal.returns
 returns c =
     let args = c.args in
     let pre = c.requires in
     let the-note = c.note in
-    (kept-still _ _ pre.0, noted-long args.notes.now _ (notes_from args.table + args.row.number) (note_of args.rest) the-note.ensures, λ k q v i g. held_back _ args.pen args.rest k args.row.number q v _ _ args.pen _ pre.0.within (rw pre.1) (file_pen_lem args.pen args.row.number q.holds (opens_block q.holds v) (inner_of q.holds) 0 pre.1 ∙ ap (λ (b : Bool). file_pen args.pen b (inner_of q.holds)) (sym (c.opens.ensures k q v i.rule g) ∙ c.if-opens.false)) (the-note.ensures ∙ sym (rw pre.1)))
+    (kept-still _ _ pre.0, noted-long args.notes.now _ (notes_from args.line.now.table + args.line.now.row.number) (note_of args.line.now.rest) the-note.ensures, λ k q v i g. held_back _ args.pen args.line.now.rest k args.line.now.row.number q v _ _ args.pen _ pre.0.within (rw pre.1) (file_pen_lem args.pen args.line.now.row.number q.holds (opens_block q.holds v) (inner_of q.holds) 0 pre.1 ∙ ap (λ (b : Bool). file_pen args.pen b (inner_of q.holds)) (sym (c.opens.ensures k q v i.rule g) ∙ c.if-opens.false)) (the-note.ensures ∙ sym (rw pre.1)))

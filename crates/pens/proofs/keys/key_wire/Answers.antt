@@ -17,16 +17,16 @@ pub returns-then-at_once_in_wire : goal.returns-then-at_once_in_wire
 returns-then-at_once_in_wire c =
     let args = c.args in
     let once = sym c.at_once_in_wire.ensures ∙ c.if-at_once_in_wire.true in
-    (c.put_at_once.ensures.0, refl, λ k q v i g. written _ args.pen args.rest k args.row.number q v _ _ (λ (n : ℕ). moved args.pen n 12 0) _ _ _ (wire-once args.pen args.row.number _ c.requires.1 once) (wire-element_pen args.pen args.row.number q.holds (opens_block q.holds v) (inner_of q.holds) (length (ended (line_of k q v))) c.requires.1 once) (sym (wire-written args.pen args.table args.row.number q.holds (inner_of q.holds) (note_of args.rest) args.notes.now c.requires.1 once)) (c.put_at_once.ensures.1 k q v i g))
+    (c.put_at_once.ensures.0, refl, λ k q v i g. written _ args.pen args.line.now.rest k args.line.now.row.number q v _ _ (λ (n : ℕ). moved args.pen n 12 0) _ _ _ (wire-once args.pen args.line.now.row.number _ c.requires.1 once) (wire-element_pen args.pen args.line.now.row.number q.holds (opens_block q.holds v) (inner_of q.holds) (length (ended (line_of k q v))) c.requires.1 once) (sym (wire-written args.pen args.line.now.table args.line.now.row.number q.holds (inner_of q.holds) (note_of args.line.now.rest) args.notes.now c.requires.1 once)) (c.put_at_once.ensures.1 k q v i g))
 
-pub returns-then-row-eq-HOLDS_BLOCK : goal.returns-then-row-eq-HOLDS_BLOCK
-returns-then-row-eq-HOLDS_BLOCK c =
+pub returns-then-line-eq-HOLDS_BLOCK : goal.returns-then-line-eq-HOLDS_BLOCK
+returns-then-line-eq-HOLDS_BLOCK c =
     let args = c.args in
     let once = sym c.at_once_in_wire.ensures ∙ c.if-at_once_in_wire.false in
-    (kept-moved _ args.pen _ _ _ c.requires.0 c.at_block.ensures, noted-long args.notes.now _ (notes_from args.table + args.row.number) (note_of args.rest) c.note.ensures, λ k q v i g. held_back _ args.pen args.rest k args.row.number q v _ _ c.at_block.result _ c.requires.0.within (wire-once args.pen args.row.number _ c.requires.1 once) (wire_pen_lem args.pen args.row.number q.holds (opens_block q.holds v) (inner_of q.holds) 0 c.requires.1 ∙ ap (λ (d : Kind). wire_pen args.pen args.row.number d 0) (sym (holds-is _ _ q _ i)) ∙ rw (once, c.if-row-eq-HOLDS_BLOCK.true) (sym c.at_block.ensures)) (c.note.ensures ∙ sym (wire-noted args.pen args.table args.row.number q.holds (inner_of q.holds) (note_of args.rest) args.notes.now c.requires.1 once)))
+    (kept-moved _ args.pen _ _ _ c.requires.0 c.at_block.ensures, noted-long args.notes.now _ (notes_from args.line.now.table + args.line.now.row.number) (note_of args.line.now.rest) c.note.ensures, λ k q v i g. held_back _ args.pen args.line.now.rest k args.line.now.row.number q v _ _ c.at_block.result _ c.requires.0.within (wire-once args.pen args.line.now.row.number _ c.requires.1 once) (wire_pen_lem args.pen args.line.now.row.number q.holds (opens_block q.holds v) (inner_of q.holds) 0 c.requires.1 ∙ ap (λ (d : Kind). wire_pen args.pen args.line.now.row.number d 0) (sym (holds-is _ _ q _ i)) ∙ rw (once, c.if-line-eq-HOLDS_BLOCK.true) (sym c.at_block.ensures)) (c.note.ensures ∙ sym (wire-noted args.pen args.line.now.table args.line.now.row.number q.holds (inner_of q.holds) (note_of args.line.now.rest) args.notes.now c.requires.1 once)))
 
 pub returns : goal.returns
 returns c =
     let args = c.args in
     let once = sym c.at_once_in_wire.ensures ∙ c.if-at_once_in_wire.false in
-    (kept-still _ _ c.requires.0, noted-long args.notes.now _ (notes_from args.table + args.row.number) (note_of args.rest) c.note.ensures, λ k q v i g. held_back _ args.pen args.rest k args.row.number q v _ _ args.pen _ c.requires.0.within (wire-once args.pen args.row.number _ c.requires.1 once) (wire_pen_lem args.pen args.row.number q.holds (opens_block q.holds v) (inner_of q.holds) 0 c.requires.1 ∙ ap (λ (d : Kind). wire_pen args.pen args.row.number d 0) (sym (holds-is _ _ q _ i)) ∙ rw once (ap (λ (b : Bool). cond b (moved args.pen 0 12 1) args.pen) (kind-closed args.row c.if-row-eq-HOLDS_BLOCK.false))) (c.note.ensures ∙ sym (wire-noted args.pen args.table args.row.number q.holds (inner_of q.holds) (note_of args.rest) args.notes.now c.requires.1 once)))
+    (kept-still _ _ c.requires.0, noted-long args.notes.now _ (notes_from args.line.now.table + args.line.now.row.number) (note_of args.line.now.rest) c.note.ensures, λ k q v i g. held_back _ args.pen args.line.now.rest k args.line.now.row.number q v _ _ args.pen _ c.requires.0.within (wire-once args.pen args.line.now.row.number _ c.requires.1 once) (wire_pen_lem args.pen args.line.now.row.number q.holds (opens_block q.holds v) (inner_of q.holds) 0 c.requires.1 ∙ ap (λ (d : Kind). wire_pen args.pen args.line.now.row.number d 0) (sym (holds-is _ _ q _ i)) ∙ rw once (ap (λ (b : Bool). cond b (moved args.pen 0 12 1) args.pen) (kind-closed args.line.now.row c.if-line-eq-HOLDS_BLOCK.false))) (c.note.ensures ∙ sym (wire-noted args.pen args.line.now.table args.line.now.row.number q.holds (inner_of q.holds) (note_of args.line.now.rest) args.notes.now c.requires.1 once)))

@@ -1,18 +1,10 @@
 use mathlib.Core.Path.{refl, ◌∙◌}
-use Rattle.pens.specs.Keys.{is_brace}
-use Rattle.pens.proofs.KeyRows.{plain-table, no_row, on_row}
+use Rattle.pens.proofs.KeyRows.{no_row, on_row}
 use Rattle.pens.proofs.Writers.{kept-still}
 use Rattle.pens.proofs.keys.on_key.Goals as goal
 
 pub returns-then-pen-eq-BLOCK_LAYER_NAMES : goal.returns-then-pen-eq-BLOCK_LAYER_NAMES
 returns-then-pen-eq-BLOCK_LAYER_NAMES c = (c.key_names.ensures.0, c.requires.1, record { name = λ _. (c.key_names.ensures.1, refl); row = λ h. absurd (h c.if-pen-eq-BLOCK_LAYER_NAMES.true) })
-
-pub row_line-requires : goal.row_line-requires
-row_line-requires c =
-    let args = c.args in
-    let pre = c.requires in
-    let the-table-of = c.table_of-table in
-    (pre.0, pre.1, plain-table args.first args.pen (is_brace args.rest) _ the-table-of.ensures)
 
 pub returns-in-None : goal.returns-in-None
 returns-in-None c =

@@ -1,6 +1,6 @@
 use Rattle.std.proofs.Common.{eqb, false, rules}
 use Rattle.pens.specs.Noting.{note_of, notes_from}
-use Rattle.pens.proofs.KeyRows.{noted-long, written, held_back, of-table}
+use Rattle.pens.proofs.KeyRows.{noted-long, written, held_back}
 use mathlib.Core.Path.{◌≡◌, refl, sym, ◌∙◌}
 use Prim.Native.Nat.{ℕ, ◌+◌}
 use mathlib.Core.Bool.{true}
@@ -12,10 +12,7 @@ pub returns-in-9 : goal.returns-in-9
 returns-in-9 c =
     let args = c.args in
     let the-put-at-once = c.put_at_once in
-    (the-put-at-once.ensures.0, refl, λ k q v i g. written _ args.pen args.rest k args.row.number q v _ _ (λ (n : ℕ). moved args.pen n 9 0) _ _ _ (rw c.in-9.is) (rw c.in-9.is) (sym (rw c.in-9.is)) (the-put-at-once.ensures.1 k q v i g))
-
-pub key_wire-requires : goal.key_wire-requires
-key_wire-requires c = (c.requires.0, c.in-12.is)
+    (the-put-at-once.ensures.0, refl, λ k q v i g. written _ args.pen args.line.now.rest k args.line.now.row.number q v _ _ (λ (n : ℕ). moved args.pen n 9 0) _ _ _ (rw c.in-9.is) (rw c.in-9.is) (sym (rw c.in-9.is)) (the-put-at-once.ensures.1 k q v i g))
 
 pub returns-in-12 : goal.returns-in-12
 returns-in-12 c = (c.key_wire.ensures.0, c.key_wire.ensures.1, c.key_wire.ensures.2)
@@ -24,41 +21,7 @@ pub returns-in-10 : goal.returns-in-10
 returns-in-10 c =
     let args = c.args in
     let pre = c.requires in
-    (kept-still _ _ pre.0, noted-long args.notes.now _ (notes_from args.table + args.row.number) (note_of args.rest) c.note.ensures, λ k q v i g. held_back _ args.pen args.rest k args.row.number q v _ _ args.pen _ pre.0.within (rw c.in-10.is) (rw c.in-10.is) (c.note.ensures ∙ sym (rw c.in-10.is)))
-
-pub returns-in-0 : goal.returns-in-0
-returns-in-0 c =
-    let args = c.args in
-    let pre = c.requires in
-    let the-key-top = c.key_top in
-    let e : args.table ≡ 0 = pre.2 ∙ rw c.in-0.is in (the-key-top.ensures.0, the-key-top.ensures.1, λ k q v i g. of-table _ _ k q v _ _ _ _ _ args.row _ _ e (λ j. the-key-top.ensures.2 k q v j g) i)
-
-pub returns-in-2 : goal.returns-in-2
-returns-in-2 c =
-    let args = c.args in
-    let pre = c.requires in
-    let the-key-drawing = c.key_drawing in
-    let e : args.table ≡ 7 = pre.2 ∙ rw c.in-2.is in (the-key-drawing.ensures.0, the-key-drawing.ensures.1, λ k q v i g. of-table _ _ k q v _ _ _ _ _ args.row _ _ e (λ j. the-key-drawing.ensures.2 k q v j g) i)
-
-pub key_defines-requires : goal.key_defines-requires
-key_defines-requires c = (c.requires.0, c.in-4.is)
-
-pub returns-in-4 : goal.returns-in-4
-returns-in-4 c =
-    let args = c.args in
-    let pre = c.requires in
-    let the-key-defines = c.key_defines in
-    let e : args.table ≡ 8 = pre.2 ∙ rw c.in-4.is in (the-key-defines.ensures.0, the-key-defines.ensures.1, λ k q v i g. of-table _ _ k q v _ _ _ _ _ args.row _ _ e (λ j. the-key-defines.ensures.2 k q v j g) i)
-
-pub key_symbol-requires : goal.key_symbol-requires
-key_symbol-requires c = (c.requires.0, c.in-5.is)
-
-pub returns-in-5 : goal.returns-in-5
-returns-in-5 c =
-    let args = c.args in
-    let pre = c.requires in
-    let the-key-symbol = c.key_symbol in
-    let e : args.table ≡ 9 = pre.2 ∙ rw c.in-5.is in (the-key-symbol.ensures.0, the-key-symbol.ensures.1, λ k q v i g. of-table _ _ k q v _ _ _ _ _ args.row _ _ e (λ j. the-key-symbol.ensures.2 k q v j g) i)
+    (kept-still _ _ pre.0, noted-long args.notes.now _ (notes_from args.line.now.table + args.line.now.row.number) (note_of args.line.now.rest) c.note.ensures, λ k q v i g. held_back _ args.pen args.line.now.rest k args.line.now.row.number q v _ _ args.pen _ pre.0.within (rw c.in-10.is) (rw c.in-10.is) (c.note.ensures ∙ sym (rw c.in-10.is)))
 
 pub put_at_once-requires-in-6 : goal.put_at_once-requires-in-6
 put_at_once-requires-in-6 c = c.requires.0
@@ -67,7 +30,7 @@ pub returns-in-6 : goal.returns-in-6
 returns-in-6 c =
     let args = c.args in
     let the-put-at-once2 = c.put_at_once-in-6 in
-    (the-put-at-once2.ensures.0, refl, λ k q v i g. written _ args.pen args.rest k args.row.number q v _ _ (λ (n : ℕ). moved args.pen n 6 0) _ _ _ (rw c.in-6.is) (rw c.in-6.is) (sym (rw c.in-6.is)) (the-put-at-once2.ensures.1 k q v i g))
+    (the-put-at-once2.ensures.0, refl, λ k q v i g. written _ args.pen args.line.now.rest k args.line.now.row.number q v _ _ (λ (n : ℕ). moved args.pen n 6 0) _ _ _ (rw c.in-6.is) (rw c.in-6.is) (sym (rw c.in-6.is)) (the-put-at-once2.ensures.1 k q v i g))
 
 pub put_figures-requires : goal.put_figures-requires
 put_figures-requires c = c.requires.0
@@ -87,4 +50,4 @@ returns-in_default c =
     let n9 : eqb args.pen.block 4 ≡ false = search rules in
     let n10 : eqb args.pen.block 5 ≡ false = search rules in
     let n11 : eqb args.pen.block 6 ≡ false = search rules in
-    (the-put-figures.ensures.0, refl, λ k q v i g. written _ args.pen args.rest k args.row.number q v _ _ (λ (n : ℕ). among_figures args.pen n true) _ _ _ (rw (n8, n10, n3, n7, n4, n5)) (rw (n1, n2, n3, n4, n5, n6, n7, n8, n9, n10, n11)) (sym (rw (n1, n6, n9, n8, n10, n3, n7, n4, n5))) (the-put-figures.ensures.1 k q v i g))
+    (the-put-figures.ensures.0, refl, λ k q v i g. written _ args.pen args.line.now.rest k args.line.now.row.number q v _ _ (λ (n : ℕ). among_figures args.pen n true) _ _ _ (rw (n8, n10, n3, n7, n4, n5)) (rw (n1, n2, n3, n4, n5, n6, n7, n8, n9, n10, n11)) (sym (rw (n1, n6, n9, n8, n10, n3, n7, n4, n5))) (the-put-figures.ensures.1 k q v i g))
