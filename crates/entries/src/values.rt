@@ -48,31 +48,25 @@ fn each(
     requires { (p + more < length rec.old) }
     ensures { Puts (read_all (known_of known.now) (part_of (parts % 100) ∷ parts_of more (parts / 100)) (split 44 c.now)) (λ v. sets rec.old p (plainly v)) rec.new result }
 {
+    let last = p + more as usize;
     let mut codes = parts;
-    let mut left = more;
-    let mut to = p;
     let mut at = 0;
     let mut worst = Ok(());
-    loop {
+    for to in p..last {
         let a = piece(codes % 100, known, &c[at..]);
-        let v = a.val;
         let e = at + a.end;
         if c.len() <= e {
-            if left != 0 {
-                return least(worst, Err(10));
-            }
-            return least(worst, put_value(v, to, rec));
-        }
-        if left == 0 {
             return least(worst, Err(10));
         }
-        let first = put_value(v, to, rec);
-        worst = least(worst, first);
-        codes = codes / 100;
-        left -= 1;
-        to += 1;
+        worst = least(worst, put_value(a.val, to, rec));
+        codes /= 100;
         at = e + 1;
     }
+    let a = piece(codes % 100, known, &c[at..]);
+    if at + a.end < c.len() {
+        return least(worst, Err(10));
+    }
+    least(worst, put_value(a.val, last, rec))
 }
 
 // The turn of a circle that was written without one, behind its six values.
