@@ -48,7 +48,7 @@ fn close_element(was: Now, tally: &mut [u32]) -> Step
     if tally[TALLY_HERE] != tally[TALLY_ELEMENTS_HERE] {
         return Step::Stop(17);
     }
-    tally[TALLY_TOTAL] = tally[TALLY_TOTAL] + tally[TALLY_ELEMENTS_HERE];
+    tally[TALLY_TOTAL] += tally[TALLY_ELEMENTS_HERE];
     Step::Go(at_block(was, BLOCK_TOP, TURN_EOF))
 }
 
@@ -93,5 +93,5 @@ pub fn count_layer(was: Now, tally: &mut [u32])
     requires { (length tally.old ≡ tally_length) × (get_or tally.old tally_elements_here 0 + was.figures ≤ 4294967295) }
     ensures { tally.new ≡ tallied tally.old was.figures }
 {
-    tally[TALLY_ELEMENTS_HERE] = tally[TALLY_ELEMENTS_HERE] + was.figures;
+    tally[TALLY_ELEMENTS_HERE] += was.figures;
 }

@@ -30,38 +30,33 @@ const KIND_BLOCKS_IN_SYMBOL: u8 = KIND_BLOCKS + IN_SYMBOL;
 fn layer_table(single: bool, wired: bool) -> u8
     ensures { result ≡ layer_table_number single wired }
 {
-    if wired {
-        if single {
-            return TABLE_SINGLE_WIRED_LAYER;
-        }
-        return TABLE_WIRED_LAYER;
+    match (wired, single) {
+        (true, true) => TABLE_SINGLE_WIRED_LAYER,
+        (true, false) => TABLE_WIRED_LAYER,
+        (false, true) => TABLE_SINGLE_LAYER,
+        (false, false) => TABLE_LAYER,
     }
-    if single {
-        return TABLE_SINGLE_LAYER;
-    }
-    TABLE_LAYER
 }
 
 // The table of the figures that may stand here: "E_symbol: placed symbol, in layers only", and wires too.
 fn home_table(layered: bool, range: u32, wires: u32) -> u8
     ensures { result ≡ home_table layered range wires }
 {
-    if !layered {
-        return TABLE_FIGURES;
+    if layered {
+        layer_table(range == 1, wires != 0)
+    } else {
+        TABLE_FIGURES
     }
-    layer_table(range == 1, wires != 0)
 }
 
 fn home_rows(layered: bool, wires: u32) -> usize
     ensures { result ≡ home_rows layered wires }
 {
-    if !layered {
-        return ROWS_FIGURES;
+    match (layered, wires) {
+        (false, _) => ROWS_FIGURES,
+        (true, 0) => ROWS_LAYER,
+        (true, _) => ROWS_WIRED_LAYER,
     }
-    if wires == 0 {
-        return ROWS_LAYER;
-    }
-    ROWS_WIRED_LAYER
 }
 
 // "10 line, 11 circle, 12 ellipse, 13 point", "16 placed symbol"; "plus 20 inside a symbol"
@@ -70,9 +65,10 @@ fn line_kind(layered: bool, row: u8) -> u8
     ensures { result ≡ line_kind layered row }
 {
     if layered {
-        return KIND_LINE + row;
+        KIND_LINE + row
+    } else {
+        KIND_LINE_IN_SYMBOL + row
     }
-    KIND_LINE_IN_SYMBOL + row
 }
 
 // "14 successive", "15 text", "16 placed symbol"; "plus 20 inside a symbol"; the first of a wire's two
@@ -80,13 +76,11 @@ fn block_kind(layered: bool, block: u8) -> u8
     requires { block ≤ 4 }
     ensures { result ≡ block_kind layered block }
 {
-    if block == INNER_WIRE {
-        return KIND_WIRE;
+    match (block, layered) {
+        (INNER_WIRE, _) => KIND_WIRE,
+        (_, true) => KIND_BLOCKS + block,
+        (_, false) => KIND_BLOCKS_IN_SYMBOL + block,
     }
-    if layered {
-        return KIND_BLOCKS + block;
-    }
-    KIND_BLOCKS_IN_SYMBOL + block
 }
 
 fn more_figures(now: Now) -> Now
@@ -94,13 +88,9 @@ fn more_figures(now: Now) -> Now
     ensures { result ≡ more_figures now }
 {
     Now {
-        block: now.block,
-        part: now.part,
-        layered: now.layered,
-        owner: now.owner,
         records: now.records + 1,
         figures: now.figures + 1,
-        points: now.points,
+        ..now
     }
 }
 
@@ -108,10 +98,7 @@ fn more_figures(now: Now) -> Now
 fn block_takes(block: u8) -> usize
     ensures { result ≡ block_takes block }
 {
-    if block == INNER_WIRE {
-        return 2;
-    }
-    1
+    if block == INNER_WIRE { 2 } else { 1 }
 }
 
 // A figure that is a block: 9 `successive`, 10 text, 11 a placed symbol, 12 a wire.
@@ -122,11 +109,9 @@ fn figure_opened(now: Now, block: u8) -> Now
     Now {
         block: BLOCK_FIGURES + block,
         part: 0,
-        layered: now.layered,
-        owner: now.owner,
         records: now.records + block_takes(block),
-        figures: now.figures,
         points: 0,
+        ..now
     }
 }
 

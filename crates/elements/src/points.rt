@@ -31,9 +31,10 @@ fn point_table(layered: bool) -> u8
     ensures { result ≡ point_table_of layered }
 {
     if layered {
-        return TABLE_LAYER_POINTS;
+        TABLE_LAYER_POINTS
+    } else {
+        TABLE_SYMBOL_POINTS
     }
-    TABLE_SYMBOL_POINTS
 }
 
 // "17 a successive's points", "plus 20 inside a symbol"
@@ -41,9 +42,10 @@ fn chain_point_kind(layered: bool) -> u8
     ensures { result ≡ chain_kind layered }
 {
     if layered {
-        return KIND_POINT;
+        KIND_POINT
+    } else {
+        KIND_POINT_IN_SYMBOL
     }
-    KIND_POINT_IN_SYMBOL
 }
 
 // One more point, or element of a wire.
@@ -52,13 +54,9 @@ pub(crate) fn more_points(now: Now) -> Now
     ensures { result ≡ more_points now }
 {
     Now {
-        block: now.block,
-        part: now.part,
-        layered: now.layered,
-        owner: now.owner,
         records: now.records + 1,
-        figures: now.figures,
         points: now.points + 1,
+        ..now
     }
 }
 
@@ -96,10 +94,9 @@ fn type_chain(here: Now, t: &mut [i64])
     requires { length t.old ≡ chain_length }
     ensures { t.new ≡ chain_typed here t.old }
 {
-    if here.points > 0 {
-        return;
+    if here.points == 0 {
+        t[PLACE_TYPE] = t[WIDTH + PLACE_TYPE];
     }
-    t[PLACE_TYPE] = t[WIDTH + PLACE_TYPE];
 }
 
 // The count goes there at its end.
@@ -110,7 +107,7 @@ fn close_chain(here: Now, t: &mut [i64]) -> Step
     if here.points < 3 {
         return Step::Stop(8);
     }
-    t[PLACE_COUNT] = here.points as i64;
+    t[PLACE_COUNT] = i64::from(here.points);
     Step::Go(figure_done(here))
 }
 

@@ -7,7 +7,6 @@ ghost use Rattle.account.specs.SkippedLines.{skipped_as, skip_content, skipped_b
 
 use account::{Pos, Skipped, Volume};
 use entries::names::part;
-use groundwork::classes::less;
 use groundwork::walk::next_line;
 use leaves::bytes::spells;
 use rules::{Equation, LineForm, Refusal};
@@ -18,10 +17,7 @@ fn ends_open(c: &[u8]) -> bool
     ensures { result ≡ is_some (stem c.now) }
 {
     let n = c.len();
-    if n < 2 {
-        return false;
-    }
-    spells(&c[n - 2..], b":{")
+    n >= 2 && spells(&c[n - 2..], b":{")
 }
 
 // "nor is content [empty], so `key=:{` is no form"
@@ -66,10 +62,8 @@ fn early_skip(did: Skipped) -> u8
     ensures { result ≡ early_skip did }
 {
     match did {
-        Skipped::Passes => 9,
-        Skipped::Deeper => 9,
-        Skipped::Shut => 9,
-        Skipped::Refuse(n) => less(n, 9),
+        Skipped::Passes | Skipped::Deeper | Skipped::Shut => 9,
+        Skipped::Refuse(n) => n.min(9),
     }
 }
 
@@ -82,7 +76,7 @@ pub fn skip_block(s: &[u8], body: &[u8], v: Volume, p: Pos, left: u8) -> Result<
     let mut at = p.at;
     let mut line = p.line;
     loop {
-        let seen = next_line(body, v, Pos { at: at, line: line });
+        let seen = next_line(body, v, Pos { at, line });
         let form = seen.form;
         let did = skip_line(s, form);
         at = seen.next;
@@ -91,19 +85,19 @@ pub fn skip_block(s: &[u8], body: &[u8], v: Volume, p: Pos, left: u8) -> Result<
             return Err(Refusal {
                 number: early_skip(did),
                 volume: v.number,
-                line: line,
+                line,
             });
         }
         match did {
             Skipped::Passes => {}
             Skipped::Shut => {
-                return Ok(Pos { at: at, line: line });
+                return Ok(Pos { at, line });
             }
             Skipped::Refuse(n) => {
                 return Err(Refusal {
                     number: n,
                     volume: v.number,
-                    line: line,
+                    line,
                 });
             }
             Skipped::Deeper => {
@@ -111,10 +105,10 @@ pub fn skip_block(s: &[u8], body: &[u8], v: Volume, p: Pos, left: u8) -> Result<
                     return Err(Refusal {
                         number: 18,
                         volume: v.number,
-                        line: line,
+                        line,
                     });
                 }
-                let r = skip_block(s, body, v, Pos { at: at, line: line }, left - 1);
+                let r = skip_block(s, body, v, Pos { at, line }, left - 1);
                 let Ok(q) = r else {
                     return r;
                 };

@@ -20,9 +20,10 @@ fn text_table(in_layer: bool) -> u8
     ensures { result ≡ text_table_of in_layer }
 {
     if in_layer {
-        return TABLE_LAYER_TEXT;
+        TABLE_LAYER_TEXT
+    } else {
+        TABLE_SYMBOL_TEXT
     }
-    TABLE_SYMBOL_TEXT
 }
 
 // A line in a text: its record is lent.

@@ -104,9 +104,10 @@ fn wire_begun(class: Class, n: Now) -> Now
     ensures { result ≡ wire_begun class n }
 {
     if knows_wires(class) {
-        return n;
+        n
+    } else {
+        at_block(n, BLOCK_WIRE, WIRE_UNREAD)
     }
-    at_block(n, BLOCK_WIRE, WIRE_UNREAD)
 }
 
 // Behind a line among figures: where it opened a wire, that one's second record gets its head, and it is read or skipped whole.
@@ -146,20 +147,14 @@ fn both_lines(row: u8, t: &[i64]) -> bool
     requires { length t.now ≡ scratch_length }
     ensures { result ≡ both_lines row t.now }
 {
-    if t[FORMER_ROW] != FORMER_LINE {
-        return false;
-    }
-    row == LINE_ROW
+    t[FORMER_ROW] == FORMER_LINE && row == LINE_ROW
 }
 
 fn meets_former(t: &[i64]) -> bool
     requires { length t.now ≡ scratch_length }
     ensures { result ≡ meets_former t.now }
 {
-    if t[FORMER_X] != t[PLACE_START_X] {
-        return false;
-    }
-    t[FORMER_Y] == t[PLACE_START_Y]
+    t[FORMER_X] == t[PLACE_START_X] && t[FORMER_Y] == t[PLACE_START_Y]
 }
 
 // "tested for equal values between two lines"
@@ -167,13 +162,7 @@ fn join_holds(ends: bool, row: u8, t: &[i64]) -> bool
     requires { length t.now ≡ scratch_length }
     ensures { result ≡ join_holds ends row t.now }
 {
-    if !ends {
-        return true;
-    }
-    if !both_lines(row, t) {
-        return true;
-    }
-    meets_former(t)
+    !ends || !both_lines(row, t) || meets_former(t)
 }
 
 // "and recorded as untested where an arc takes part"
@@ -181,16 +170,13 @@ fn join_number(ends: bool, row: u8, t: &[i64]) -> i64
     requires { length t.now ≡ scratch_length }
     ensures { result ≡ pos (join_number ends row t.now) }
 {
-    if !ends {
-        return JOIN_NONE;
+    if !ends || t[FORMER_ROW] == FORMER_NONE {
+        JOIN_NONE
+    } else if both_lines(row, t) {
+        JOIN_TESTED
+    } else {
+        JOIN_UNTESTED
     }
-    if t[FORMER_ROW] == FORMER_NONE {
-        return JOIN_NONE;
-    }
-    if both_lines(row, t) {
-        return JOIN_TESTED;
-    }
-    JOIN_UNTESTED
 }
 
 // What the next element must know of this one.
@@ -200,7 +186,7 @@ fn keep_former(row: u8, t: &mut [i64])
 {
     t[FORMER_X] = t[PLACE_END_X];
     t[FORMER_Y] = t[PLACE_END_Y];
-    t[FORMER_ROW] = (row + 1) as i64;
+    t[FORMER_ROW] = i64::from(row + 1);
 }
 
 // The element's record, whose values stand at the front of the scratch.
@@ -350,10 +336,7 @@ fn own_row(
 fn is_misplaced(here: Now, row: u8) -> bool
     ensures { result ≡ misplaced here row }
 {
-    if row < ROW_DIREC {
-        return here.part == WIRE_PAST;
-    }
-    false
+    row < ROW_DIREC && here.part == WIRE_PAST
 }
 
 // The row may take no more: "0 to 2" of `direc`, the rows that stand once are marked.
@@ -362,9 +345,10 @@ fn is_full(row: u8, marks: &[bool], t: &[i64]) -> bool
     ensures { result ≡ full_at marks.now t.now row }
 {
     if row == ROW_DIREC {
-        return MOST_DIRECS <= t[WIRE_DIRECS] as usize;
+        MOST_DIRECS <= t[WIRE_DIRECS] as usize
+    } else {
+        marks[row as usize]
     }
-    marks[row as usize]
 }
 
 // A line with a key, directly in a wire that is read.
@@ -431,8 +415,8 @@ fn count_wire(range: u32, here: Now, t: &mut [i64])
     t[FORMER_X] = 0;
     t[FORMER_Y] = 0;
     t[FORMER_ROW] = FORMER_NONE;
-    t[WIRE_ELEMENTS] = here.points as i64;
-    t[WIRE_JOIN_DIGIT] = (range / 100) as i64;
+    t[WIRE_ELEMENTS] = i64::from(here.points);
+    t[WIRE_JOIN_DIGIT] = i64::from(range / 100);
 }
 
 // The wire's `}`: what the file allows and the wire part knows is required; its two records are complete.
@@ -529,13 +513,8 @@ fn open_skipped(now: Now, depth: u32) -> Now
     ensures { result ≡ open_skipped now depth }
 {
     Now {
-        block: now.block,
-        part: now.part,
-        layered: now.layered,
-        owner: now.owner,
-        records: now.records,
-        figures: now.figures,
         points: depth,
+        ..now
     }
 }
 

@@ -6,32 +6,10 @@ use Rattle.rules.specs.Lines.{form_in}
 use Rattle.rules.specs.RangeClass.{digits}
 use Rattle.entries.specs.Names.{known_in}
 use Rattle.elements.proofs.ElementActs.{element-long, element-room, known-most, opening_of, layer_fits, layer_below, elements_stay, elements-entry, elements-begin, elements-shut, elements-refuse}
-use borrow.Author.Rules.{rules}
 use Rattle.elements.proofs.element.on_elements.Goals as goal
-
-pub no_digits-requires : goal.no_digits-requires
-no_digits-requires c = search rules
-
-pub slice_bounds-act-end : goal.slice_bounds-act-end
-slice_bounds-act-end c = search rules
-
-pub slice_bounds-act-end-2 : goal.slice_bounds-act-end-2
-slice_bounds-act-end-2 c = search rules
 
 pub act-next-requires : goal.act-next-requires
 act-next-requires c = (c.requires.0, c.requires.1, omega (arith, c.requires.2), element-long, element-room)
-
-pub enum_told-1 : goal.enum_told-1
-enum_told-1 c = search rules
-
-pub enum_told-in-Entry : goal.enum_told-in-Entry
-enum_told-in-Entry c = search rules
-
-pub enum_told-in-Begin : goal.enum_told-in-Begin
-enum_told-in-Begin c = search rules
-
-pub bounds-layer-0 : goal.bounds-layer-0
-bounds-layer-0 c = search rules
 
 pub overflow_cast-layer : goal.overflow_cast-layer
 overflow_cast-layer c =
@@ -43,34 +21,16 @@ open_layer-requires c =
     let h = rw c.no_digits.ensures at c.act-next.ensures in
     (layer_below _ _ (opening_of (known_in c.args.s.now c.args.symbols.now c.args.layers.now) (digits 0 0) (false ∷ []) (form_in c.args.s.now c.args.form) _ _ _ (known-most c.args.s.now c.args.symbols.now c.args.layers.now c.requires.2) h c.in-Begin.is), c.requires.5, c.requires.6)
 
-pub enum_told-in-Shut : goal.enum_told-in-Shut
-enum_told-in-Shut c = search rules
-
-pub close_element-requires : goal.close_element-requires
-close_element-requires c = search rules
-
-pub enum_known-next : goal.enum_known-next
-enum_known-next c = search rules
-
 pub returns-in-Stay : goal.returns-in-Stay
 returns-in-Stay c = elements_stay c.args.was c.args.tally.now c.args.used.now c.args.used_all.now _ (sym c.in-Stay.is ∙ (rw c.no_digits.ensures at c.act-next.ensures).eq)
 
 pub returns-in-Entry : goal.returns-in-Entry
 returns-in-Entry c = elements-entry c.args.was c.args.tally.now c.args.used.now c.args.used_all.now _ _ (sym c.in-Entry.is ∙ (rw c.no_digits.ensures at c.act-next.ensures).eq)
 
-pub shape_of-used : goal.shape_of-used
-shape_of-used c = search rules
-
-pub shape_of-used_all : goal.shape_of-used_all
-shape_of-used_all c = search rules
-
 pub returns-in-Begin : goal.returns-in-Begin
 returns-in-Begin c =
     let h = rw c.no_digits.ensures at c.act-next.ensures in
     elements-begin c.args.was c.args.tally.now c.args.used.now c.args.used_all.now _ _ _ _ _ (opening_of (known_in c.args.s.now c.args.symbols.now c.args.layers.now) (digits 0 0) (false ∷ []) (form_in c.args.s.now c.args.form) _ _ _ (known-most c.args.s.now c.args.symbols.now c.args.layers.now c.requires.2) h c.in-Begin.is) c.open_layer.ensures
-
-pub shape_of-tally : goal.shape_of-tally
-shape_of-tally c = search rules
 
 pub returns-in-Shut : goal.returns-in-Shut
 returns-in-Shut c = elements-shut c.args.was c.args.tally.now c.args.used.now c.args.used_all.now _ _ _ (sym c.in-Shut.is ∙ (rw c.no_digits.ensures at c.act-next.ensures).eq) c.close_element.ensures

@@ -6,14 +6,7 @@ use borrow.Author.Tests.{eq-eqb, ne_eqb}
 use Rattle.rules.specs.Lines.{has_form}
 use Rattle.entries.proofs.ByShape.{form-by}
 use Rattle.account.specs.declared.Step.TheVariants as S
-use borrow.Author.Rules.{rules}
 use Rattle.elements.proofs.placed.not_here.Goals as goal
-
-pub shape_for-requires : goal.shape_for-requires
-shape_for-requires c = search rules
-
-pub sort_of-requires : goal.sort_of-requires
-sort_of-requires c = search rules
 
 pub returns-then-sort_of-eq-SORT_FORMLESS : goal.returns-then-sort_of-eq-SORT_FORMLESS
 returns-then-sort_of-eq-SORT_FORMLESS c =

@@ -11,29 +11,7 @@ use Rattle.entries.proofs.TableActs.{no_row, row_room, row-acts}
 use Rattle.account.specs.SkippedLines.{skipped_by}
 use Rattle.account.specs.PlacedLines.{lent}
 use Rattle.account.proofs.PlacedLaws.{placed-room, found_ready, row_number, key-known, key-hidden}
-use borrow.Author.Rules.{rules}
 use Rattle.elements.proofs.placed.on_key.Goals as goal
-
-pub part-requires : goal.part-requires
-part-requires c = search rules
-
-pub row_of-requires : goal.row_of-requires
-row_of-requires c = search rules
-
-pub enum_told-1 : goal.enum_told-1
-enum_told-1 c = search rules
-
-pub on_unknown-requires : goal.on_unknown-requires
-on_unknown-requires c = search rules
-
-pub enum_known-row : goal.enum_known-row
-enum_known-row c = search rules
-
-pub reaches-requires : goal.reaches-requires
-reaches-requires c = search rules
-
-pub on_unknown-requires-then-not-reaches : goal.on_unknown-requires-then-not-reaches
-on_unknown-requires-then-not-reaches c = search rules
 
 pub returns-then-not-reaches : goal.returns-then-not-reaches
 returns-then-not-reaches c =
@@ -41,9 +19,6 @@ returns-then-not-reaches c =
     let e = rw (c.in-Some.is, c.part.ensures) at c.row_of.ensures in
     let x = lent a.tally.now a.serials.now a.marks.now a.inner.now in
     key-hidden (bytes_at a.s.now a.key) c.in-Some.row e (known_in a.s.now a.symbols.now a.layers.now) a.class a.range a.here x x a.rec.now a.rec.now c.on_unknown-then-not-reaches.result (skipped_by (form_in a.s.now a.form)) (rest_in a.s.now a.rest) (sym c.reaches.ensures ∙ not-true _ c.if-not-reaches.true-raw) (record { answer = c.on_unknown-then-not-reaches.ensures; lent = refl; rec = refl })
-
-pub overflow_cast-had : goal.overflow_cast-had
-overflow_cast-had c = search rules
 
 pub bounds-marks-row : goal.bounds-marks-row
 bounds-marks-row c =
@@ -57,9 +32,6 @@ act_row-next-requires c =
     let h = c.requires in
     let e = rw (c.in-Some.is, c.part.ensures) at c.row_of.ensures in
     (h.0, h.1, h.2, row_room (table_of 18) (bytes_at a.s.now a.key) c.in-Some.row e 0 (length a.rec.now) (placed-room (length a.rec.now) h.4))
-
-pub content_at-requires : goal.content_at-requires
-content_at-requires c = search rules
 
 pub placed_done-requires : goal.placed_done-requires
 placed_done-requires c =
@@ -75,21 +47,6 @@ returns-in-None c =
     let a = c.args in
     let e = rw (c.in-None.is, c.part.ensures) at c.row_of.ensures in
     rw (no_row (find (bytes_at a.s.now a.key) (table_of 18)) e) (record { answer = c.on_unknown.ensures; lent = refl {a = lent a.tally.now a.serials.now a.marks.now a.inner.now}; rec = refl {a = a.rec.now} })
-
-pub shape_of-tally : goal.shape_of-tally
-shape_of-tally c = search rules
-
-pub shape_of-serials : goal.shape_of-serials
-shape_of-serials c = search rules
-
-pub shape_of-marks : goal.shape_of-marks
-shape_of-marks c = search rules
-
-pub shape_of-inner : goal.shape_of-inner
-shape_of-inner c = search rules
-
-pub shape_of-rec : goal.shape_of-rec
-shape_of-rec c = search rules
 
 pub returns-else-not-reaches : goal.returns-else-not-reaches
 returns-else-not-reaches c =

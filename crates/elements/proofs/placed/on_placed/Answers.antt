@@ -5,41 +5,10 @@ use Rattle.rules.specs.Lines.{form_in}
 use Rattle.entries.specs.Names.{known_in}
 use mathlib.Core.Path.{subst}
 use Rattle.account.specs.PlacedLines.{lent, OwnLine}
-use borrow.Author.Rules.{rules}
 use Rattle.elements.proofs.placed.on_placed.Goals as goal
-
-pub on_placed_text-requires : goal.on_placed_text-requires
-on_placed_text-requires c = search rules
-
-pub shape_of-inner-then-here-eq-INNER_PLACED_TEXT : goal.shape_of-inner-then-here-eq-INNER_PLACED_TEXT
-shape_of-inner-then-here-eq-INNER_PLACED_TEXT c = search rules
-
-pub shape_of-rec-then-here-eq-INNER_PLACED_TEXT : goal.shape_of-rec-then-here-eq-INNER_PLACED_TEXT
-shape_of-rec-then-here-eq-INNER_PLACED_TEXT c = search rules
 
 pub returns-then-here-eq-INNER_PLACED_TEXT : goal.returns-then-here-eq-INNER_PLACED_TEXT
 returns-then-here-eq-INNER_PLACED_TEXT c = rw (eq-eqb c.args.here.part 1 c.if-here-eq-INNER_PLACED_TEXT.true) (c.on_placed_text.ensures, refl)
-
-pub digits_of-requires : goal.digits_of-requires
-digits_of-requires c = search rules
-
-pub on_placed_own-requires : goal.on_placed_own-requires
-on_placed_own-requires c = search rules
-
-pub shape_of-tally : goal.shape_of-tally
-shape_of-tally c = search rules
-
-pub shape_of-serials : goal.shape_of-serials
-shape_of-serials c = search rules
-
-pub shape_of-marks : goal.shape_of-marks
-shape_of-marks c = search rules
-
-pub shape_of-inner : goal.shape_of-inner
-shape_of-inner c = search rules
-
-pub shape_of-rec : goal.shape_of-rec
-shape_of-rec c = search rules
 
 pub returns : goal.returns
 returns c =

@@ -9,12 +9,6 @@ use Rattle.account.proofs.PlacedLaws.{own_back, own_cast, entry-serial, entry_ot
 use borrow.Author.Rules.{rules}
 use Rattle.elements.proofs.placed.placed_entry.Goals as goal
 
-pub bounds-marks-row : goal.bounds-marks-row
-bounds-marks-row c = search rules
-
-pub bounds-rec-14 : goal.bounds-rec-14
-bounds-rec-14 c = search rules
-
 pub overflow_cast-rec : goal.overflow_cast-rec
 overflow_cast-rec c =
     let f : SFits w64 (get_or c.args.rec.now 14 (pos 0)) = search rules in
@@ -27,22 +21,10 @@ keep_own-requires c =
     let m = (h.6 c.if-row-eq-SERIAL_ROW.true).most in
     (h.0, h.1, h.3, omega (arith, own_back (get_or c.args.rec.now 14 (pos 0)) f, m), h.2)
 
-pub shape_of-tally-then-row-eq-SERIAL_ROW : goal.shape_of-tally-then-row-eq-SERIAL_ROW
-shape_of-tally-then-row-eq-SERIAL_ROW c = search rules
-
-pub shape_of-serials-then-row-eq-SERIAL_ROW : goal.shape_of-serials-then-row-eq-SERIAL_ROW
-shape_of-serials-then-row-eq-SERIAL_ROW c = search rules
-
-pub shape_of-marks-then-row-eq-SERIAL_ROW : goal.shape_of-marks-then-row-eq-SERIAL_ROW
-shape_of-marks-then-row-eq-SERIAL_ROW c = search rules
-
 pub returns-then-row-eq-SERIAL_ROW : goal.returns-then-row-eq-SERIAL_ROW
 returns-then-row-eq-SERIAL_ROW c =
     let f : SFits w64 (get_or c.args.rec.now 14 (pos 0)) = search rules in
     entry-serial c.args.here c.args.row (own_number c.args.rec.now) c.args.content c.args.tally.now _ c.args.serials.now _ c.args.marks.now [] _ c.if-row-eq-SERIAL_ROW.true (rw (own_back (get_or c.args.rec.now 14 (pos 0)) f) at c.keep_own.ensures)
-
-pub shape_of-marks : goal.shape_of-marks
-shape_of-marks c = search rules
 
 pub returns : goal.returns
 returns c = entry_other c.args.here c.args.row (own_number c.args.rec.now) c.args.content c.args.tally.now c.args.serials.now c.args.marks.now [] c.if-row-eq-SERIAL_ROW.false

@@ -13,73 +13,36 @@ use Rattle.elements.proofs.ShelfActs.{shown-long, shelf-put, long_enough, cleare
 use borrow.Author.Rules.{rules}
 use Rattle.elements.proofs.shelves.shelve.Goals as goal
 
-pub overflow_add-count : goal.overflow_add-count
-overflow_add-count c = search rules
-
-pub offset_bounds-t-place : goal.offset_bounds-t-place
-offset_bounds-t-place c = search rules
-
-pub slice_copy_out-count : goal.slice_copy_out-count
-slice_copy_out-count c = search rules
-
-pub overflow_cast-count : goal.overflow_cast-count
-overflow_cast-count c = search rules
-
-pub show_more-requires : goal.show_more-requires
-show_more-requires c = search rules
-
 pub overflow_add-t : goal.overflow_add-t
 overflow_add-t c =
-    let f : SFits w64 (get_or c.args.t.now (32 + c.args.place) (pos 0)) = search rules in
-    omega (arith, own_back (get_or c.args.t.now (32 + c.args.place) (pos 0)) f, c.requires.1.most)
+    let f : SFits w64 (get_or c.args.t.now (32 + c.args.on.place) (pos 0)) = search rules in
+    omega (arith, own_back (get_or c.args.t.now (32 + c.args.on.place) (pos 0)) f, c.requires.1.most)
 
 pub overflow_cast-t : goal.overflow_cast-t
 overflow_cast-t c =
-    let f : SFits w64 (get_or c.args.t.now (32 + c.args.place) (pos 0)) = search rules in
-    omega (arith, own_back (get_or c.args.t.now (32 + c.args.place) (pos 0)) f, c.requires.1.most)
-
-pub overflow_add-place : goal.overflow_add-place
-overflow_add-place c = search rules
-
-pub offset_bounds-t-place-2 : goal.offset_bounds-t-place-2
-offset_bounds-t-place-2 c = search rules
-
-pub bounds-t-place : goal.bounds-t-place
-bounds-t-place c = search rules
-
-pub overflow_add-t-2 : goal.overflow_add-t-2
-overflow_add-t-2 c = search rules
-
-pub offset_bounds-t-state : goal.offset_bounds-t-state
-offset_bounds-t-state c = search rules
+    let f : SFits w64 (get_or c.args.t.now (32 + c.args.on.place) (pos 0)) = search rules in
+    omega (arith, own_back (get_or c.args.t.now (32 + c.args.on.place) (pos 0)) f, c.requires.1.most)
 
 pub slice_set_of-t : goal.slice_set_of-t
 slice_set_of-t c =
-    let h = ap length c.show_more.ensures ∙ shown-long c.args.from (shelf c.args.place 0 c.args.wide c.args.shown) _ c.args.t.now ∙ c.requires.0 in
+    let h = ap length c.show_more.ensures ∙ shown-long c.args.from (shelf c.args.on.place 0 c.args.on.wide c.args.on.shown) _ c.args.t.now ∙ c.requires.0 in
     lt-length-set c.show_more.new.t _ _ (omega (arith, h, c.requires.4))
 
-pub slice_bounds-clear-count : goal.slice_bounds-clear-count
-slice_bounds-clear-count c = search rules
-
-pub slice_bounds-clear-start : goal.slice_bounds-clear-start
-slice_bounds-clear-start c = search rules
-
-pub slice_bounds-clear-end : goal.slice_bounds-clear-end
-slice_bounds-clear-end c =
-    let h = ap length c.show_more.ensures ∙ shown-long c.args.from (shelf c.args.place 0 c.args.wide c.args.shown) _ c.args.t.now ∙ c.requires.0 in
+pub slice_bounds-fill-end : goal.slice_bounds-fill-end
+slice_bounds-fill-end c =
+    let h = ap length c.show_more.ensures ∙ shown-long c.args.from (shelf c.args.on.place 0 c.args.on.wide c.args.on.shown) _ c.args.t.now ∙ c.requires.0 in
     long_enough c.show_more.new.t _ _ _ _ h
-
-pub clear-requires : goal.clear-requires
-clear-requires c = search rules
 
 pub shape_of-t : goal.shape_of-t
 shape_of-t c =
-    let h = ap length c.show_more.ensures ∙ shown-long c.args.from (shelf c.args.place 0 c.args.wide c.args.shown) _ c.args.t.now ∙ c.requires.0 in
-    cleared-long c.show_more.new.t _ _ _ _ _ _ c.clear.ensures h c.requires.0
+    let zeros = c.fill.ensures.after (λ y e. search rules) in
+    let h = ap length c.show_more.ensures ∙ shown-long c.args.from (shelf c.args.on.place 0 c.args.on.wide c.args.on.shown) _ c.args.t.now ∙ c.requires.0 in
+    cleared-long c.show_more.new.t _ _ _ _ _ _ zeros h c.requires.0
 
 pub returns : goal.returns
 returns c =
-    let f : SFits w64 (get_or c.args.t.now (32 + c.args.place) (pos 0)) = search rules in
-    let b = own_back (get_or c.args.t.now (32 + c.args.place) (pos 0)) f in
-    let h = ap length c.show_more.ensures ∙ shown-long c.args.from (shelf c.args.place 0 c.args.wide c.args.shown) _ c.args.t.now ∙ c.requires.0 in
-    shelf-put c.args.from c.args.place c.args.state c.args.wide c.args.shown c.args.t.now _ _ _ _ b c.show_more.ensures (pos-back (nat_abs (to_z w64 (of_z w64 (get_or c.args.t.now (32 + c.args.place) (pos 0)))) + 1) (omega (arith, b, c.requires.1.most))) c.clear.ensures h
+    let zeros = c.fill.ensures.after (λ y e. search rules) in
+    let f : SFits w64 (get_or c.args.t.now (32 + c.args.on.place) (pos 0)) = search rules in
+    let b = own_back (get_or c.args.t.now (32 + c.args.on.place) (pos 0)) f in
+    let h = ap length c.show_more.ensures ∙ shown-long c.args.from (shelf c.args.on.place 0 c.args.on.wide c.args.on.shown) _ c.args.t.now ∙ c.requires.0 in
+    shelf-put c.args.from c.args.on.place c.args.on.state c.args.on.wide c.args.on.shown c.args.t.now _ _ _ _ b c.show_more.ensures (pos-back (nat_abs (to_z w64 (of_z w64 (get_or c.args.t.now (32 + c.args.on.place) (pos 0)))) + 1) (omega (arith, b, c.requires.1.most))) zeros h

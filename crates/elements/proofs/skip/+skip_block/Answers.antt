@@ -1,11 +1,7 @@
-use Prim.Native.Nat.{◌+◌, ◌-◌}
 use mathlib.Core.Path.{sym}
 use native.Mathlib.Omega.{arith}
-use borrow.Author.Rules.{rules}
-use Rattle.account.specs.Walk.{end_of}
 use Rattle.account.proofs.SeenLines.{seen-forward}
-use Rattle.account.proofs.SkipRun.{Going, start, at_last, stays, shut, refuses, too-deep, inner_ready, inner-stops, goes_on}
-use Prim.Native.Nat.{ℕ, ◌<◌}
+use Rattle.account.proofs.SkipRun.{start, at_last, stays, shut, refuses, too-deep, inner_ready, inner-stops, goes_on}
 use Rattle.elements.proofs.skip.+skip_block.Goals as goal
 
 pub loop-did-init : goal.loop-did-init
@@ -14,20 +10,11 @@ loop-did-init t c = start _ _ _ _ _ c.requires
 pub next_line-seen-requires : goal.next_line-seen-requires
 next_line-seen-requires t c = let a = c.loop-did.invariant.low.line in let b = c.loop-did.invariant.low.at in omega arith
 
-pub skip_line-did-requires : goal.skip_line-did-requires
-skip_line-did-requires t c = search rules
-
 pub overflow_add-line : goal.overflow_add-line
 overflow_add-line t c = let a = c.loop-did.invariant.low.line in let b = c.loop-did.invariant.low.at in omega arith
 
-pub early_skip-requires : goal.early_skip-requires
-early_skip-requires t c = search rules
-
 pub returns-then-seen : goal.returns-then-seen
 returns-then-seen t c = at_last _ _ _ _ _ _ c.loop-did.invariant _ c.next_line-seen.ensures _ c.skip_line-did.ensures c.if-seen.true _ c.early_skip.ensures
-
-pub enum_told-1 : goal.enum_told-1
-enum_told-1 t c = search rules
 
 pub loop-did-smaller-in-Passes : goal.loop-did-smaller-in-Passes
 loop-did-smaller-in-Passes t c = let m = seen-forward _ _ _ _ c.next_line-seen.ensures c.if-seen.false in omega (arith, m.0, m.1)
@@ -35,20 +22,11 @@ loop-did-smaller-in-Passes t c = let m = seen-forward _ _ _ _ c.next_line-seen.e
 pub loop-did-preserved-in-Passes : goal.loop-did-preserved-in-Passes
 loop-did-preserved-in-Passes t c = stays _ _ _ _ _ _ c.loop-did.invariant _ c.next_line-seen.ensures _ c.skip_line-did.ensures c.if-seen.false (sym c.in-Passes.is)
 
-pub enum_told-in-Shut : goal.enum_told-in-Shut
-enum_told-in-Shut t c = search rules
-
 pub returns-in-Shut : goal.returns-in-Shut
 returns-in-Shut t c = shut _ _ _ _ _ _ c.loop-did.invariant _ c.next_line-seen.ensures _ c.skip_line-did.ensures c.if-seen.false (sym c.in-Shut.is)
 
-pub enum_known-did : goal.enum_known-did
-enum_known-did t c = search rules
-
 pub returns-in-Refuse : goal.returns-in-Refuse
 returns-in-Refuse t c = refuses _ _ _ _ _ _ c.loop-did.invariant _ c.next_line-seen.ensures _ c.skip_line-did.ensures c.if-seen.false _ (sym c.in-Refuse.is)
-
-pub enum_told-in-Deeper : goal.enum_told-in-Deeper
-enum_told-in-Deeper t c = search rules
 
 pub returns-then-left-eq1 : goal.returns-then-left-eq1
 returns-then-left-eq1 t c = too-deep _ _ _ _ _ _ c.loop-did.invariant _ c.next_line-seen.ensures _ c.skip_line-did.ensures c.if-seen.false (sym c.in-Deeper.is) c.if-left-eq1.true
@@ -58,12 +36,6 @@ overflow_sub-left t c = let a = c.loop-did.invariant.one in omega arith
 
 pub skip_block-r-requires : goal.skip_block-r-requires
 skip_block-r-requires t c = (let a = c.loop-did.invariant.one in omega arith, inner_ready _ _ _ _ _ _ c.loop-did.invariant _ c.next_line-seen.ensures _ c.skip_line-did.ensures c.if-seen.false (sym c.in-Deeper.is) c.if-left-eq1.false)
-
-pub enum_known-r : goal.enum_known-r
-enum_known-r t c = search rules
-
-pub enum_told-in_default : goal.enum_told-in_default
-enum_told-in_default t c = search rules
 
 pub returns-in_default : goal.returns-in_default
 returns-in_default t c = rw c.in_default.is (inner-stops _ _ _ _ _ _ c.loop-did.invariant _ c.next_line-seen.ensures _ c.skip_line-did.ensures c.if-seen.false (sym c.in-Deeper.is) c.if-left-eq1.false _ (rw c.in_default.is at c.skip_block-r.ensures))

@@ -1,11 +1,6 @@
 use Prim.Native.Nat.{◌+◌, ◌-◌}
-use mathlib.Core.Path.{sym}
-use native.Mathlib.Omega.{arith}
-use borrow.Author.Rules.{rules}
 use Rattle.account.specs.Walk.{end_of}
-use Rattle.account.proofs.SeenLines.{seen-forward}
-use Rattle.account.proofs.SkipRun.{Going, start, at_last, stays, shut, refuses, too-deep, inner_ready, inner-stops, goes_on}
-use Prim.Native.Nat.{ℕ, ◌<◌}
+use Rattle.account.proofs.SkipRun.{Going}
 use Rattle.elements.proofs.skip.+skip_block.Given as goal
 
 abbrev pub decreases-skip_block : goal.decreases-skip_block

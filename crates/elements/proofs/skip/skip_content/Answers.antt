@@ -1,11 +1,7 @@
 use mathlib.Core.Path.{sym, ◌∙◌}
 use borrow.Author.Tests.{not-true, not-false}
 use Rattle.elements.proofs.StemEnds.{content-passes, content-formless, content-opens}
-use borrow.Author.Rules.{rules}
 use Rattle.elements.proofs.skip.skip_content.Goals as goal
-
-pub ends_open-requires : goal.ends_open-requires
-ends_open-requires c = search rules
 
 pub returns-then-not-ends_open : goal.returns-then-not-ends_open
 returns-then-not-ends_open c = sym (content-passes c.args.c.now (sym c.ends_open.ensures ∙ not-true _ c.if-not-ends_open.true-raw))

@@ -7,35 +7,8 @@ use Rattle.elements.proofs.WireKeys.{front-room, shelves-kept, front-stay, front
 use borrow.Author.Rules.{rules}
 use Rattle.elements.proofs.wires.front_row.Goals as goal
 
-pub digits_of-requires : goal.digits_of-requires
-digits_of-requires c = search rules
-
-pub slice_bounds-act_row-count : goal.slice_bounds-act_row-count
-slice_bounds-act_row-count c = search rules
-
-pub slice_bounds-act_row-start : goal.slice_bounds-act_row-start
-slice_bounds-act_row-start c = search rules
-
-pub slice_bounds-act_row-end : goal.slice_bounds-act_row-end
-slice_bounds-act_row-end c = search rules
-
 pub act_row-next-requires : goal.act_row-next-requires
 act_row-next-requires c = let h = c.requires in (h.0, h.1, h.2, front-room c.args.row h.4 _ (search rules) h.3)
-
-pub enum_told-1 : goal.enum_told-1
-enum_told-1 c = search rules
-
-pub enum_known-next : goal.enum_known-next
-enum_known-next c = search rules
-
-pub joins_ends-requires : goal.joins_ends-requires
-joins_ends-requires c = search rules
-
-pub element_entered-requires : goal.element_entered-requires
-element_entered-requires c = search rules
-
-pub shape_of-t-then-j-lt-ROW_DIREC : goal.shape_of-t-then-j-lt-ROW_DIREC
-shape_of-t-then-j-lt-ROW_DIREC c = search rules
 
 pub returns-then-j-lt-ROW_DIREC : goal.returns-then-j-lt-ROW_DIREC
 returns-then-j-lt-ROW_DIREC c = front-element c.args.row c.requires.4 (known_in c.args.s.now c.args.symbols.now c.args.layers.now) _ c.args.full (rest_in c.args.s.now c.args.rest) c.args.range c.args.here c.args.at c.args.t.now c.act_row-next.new.rec _ _ c.digits_of.ensures c.act_row-next.ensures (lent-part 0 32 c.args.t.now c.act_row-next.new.rec refl) c.in-Entry.j _ _ _ c.in-Entry.is c.if-j-lt-ROW_DIREC.true c.joins_ends.ensures c.element_entered.ensures
@@ -43,41 +16,17 @@ returns-then-j-lt-ROW_DIREC c = front-element c.args.row c.requires.4 (known_in 
 pub group_entered-requires : goal.group_entered-requires
 group_entered-requires c = (c.if-j-lt-ROW_DIREC.false, omega (arith, front-number c.args.row c.requires.4 (known_in c.args.s.now c.args.symbols.now c.args.layers.now) _ c.args.full (rest_in c.args.s.now c.args.rest) c.args.range c.args.here c.args.at c.args.t.now c.act_row-next.new.rec _ _ c.digits_of.ensures c.act_row-next.ensures (lent-part 0 32 c.args.t.now c.act_row-next.new.rec refl) c.in-Entry.j c.in-Entry.is, c.requires.3), shelves-kept c.args.t.now c.act_row-next.new.rec _ (lent-part 0 32 c.args.t.now c.act_row-next.new.rec refl) c.requires.6.scratch (search rules) c.requires.6)
 
-pub enum_told-in-Begin : goal.enum_told-in-Begin
-enum_told-in-Begin c = search rules
-
-pub enum_told-in-Shut : goal.enum_told-in-Shut
-enum_told-in-Shut c = search rules
-
-pub enum_known-next-in-Refuse-1 : goal.enum_known-next-in-Refuse-1
-enum_known-next-in-Refuse-1 c = search rules
-
-pub shape_of-t-in-Stay : goal.shape_of-t-in-Stay
-shape_of-t-in-Stay c = search rules
-
 pub returns-in-Stay : goal.returns-in-Stay
 returns-in-Stay c = front-stay c.args.row c.requires.4 (known_in c.args.s.now c.args.symbols.now c.args.layers.now) _ c.args.full (rest_in c.args.s.now c.args.rest) c.args.range c.args.here c.args.at c.args.t.now c.act_row-next.new.rec _ _ c.digits_of.ensures c.act_row-next.ensures (lent-part 0 32 c.args.t.now c.act_row-next.new.rec refl) c.in-Stay.is
-
-pub shape_of-t-else-j-lt-ROW_DIREC : goal.shape_of-t-else-j-lt-ROW_DIREC
-shape_of-t-else-j-lt-ROW_DIREC c = search rules
 
 pub returns-else-j-lt-ROW_DIREC : goal.returns-else-j-lt-ROW_DIREC
 returns-else-j-lt-ROW_DIREC c = front-group c.args.row c.requires.4 (known_in c.args.s.now c.args.symbols.now c.args.layers.now) _ c.args.full (rest_in c.args.s.now c.args.rest) c.args.range c.args.here c.args.at c.args.t.now c.act_row-next.new.rec _ _ c.digits_of.ensures c.act_row-next.ensures (lent-part 0 32 c.args.t.now c.act_row-next.new.rec refl) c.in-Entry.j _ _ c.in-Entry.is c.if-j-lt-ROW_DIREC.false c.group_entered.ensures
 
-pub shape_of-t-in-Begin : goal.shape_of-t-in-Begin
-shape_of-t-in-Begin c = search rules
-
 pub returns-in-Begin : goal.returns-in-Begin
 returns-in-Begin c = front-begin c.args.row c.requires.4 (known_in c.args.s.now c.args.symbols.now c.args.layers.now) _ c.args.full (rest_in c.args.s.now c.args.rest) c.args.range c.args.here c.args.at c.args.t.now c.act_row-next.new.rec _ _ c.digits_of.ensures c.act_row-next.ensures (lent-part 0 32 c.args.t.now c.act_row-next.new.rec refl) _ _ c.in-Begin.is
 
-pub shape_of-t-in-Shut : goal.shape_of-t-in-Shut
-shape_of-t-in-Shut c = search rules
-
 pub returns-in-Shut : goal.returns-in-Shut
 returns-in-Shut c = front-shut c.args.row c.requires.4 (known_in c.args.s.now c.args.symbols.now c.args.layers.now) _ c.args.full (rest_in c.args.s.now c.args.rest) c.args.range c.args.here c.args.at c.args.t.now c.act_row-next.new.rec _ _ c.digits_of.ensures c.act_row-next.ensures (lent-part 0 32 c.args.t.now c.act_row-next.new.rec refl) _ c.in-Shut.is
-
-pub shape_of-t-in-Refuse : goal.shape_of-t-in-Refuse
-shape_of-t-in-Refuse c = search rules
 
 pub returns-in-Refuse : goal.returns-in-Refuse
 returns-in-Refuse c = front-refuse c.args.row c.requires.4 (known_in c.args.s.now c.args.symbols.now c.args.layers.now) _ c.args.full (rest_in c.args.s.now c.args.rest) c.args.range c.args.here c.args.at c.args.t.now c.act_row-next.new.rec _ _ c.digits_of.ensures c.act_row-next.ensures (lent-part 0 32 c.args.t.now c.act_row-next.new.rec refl) _ _ c.in-Refuse.is

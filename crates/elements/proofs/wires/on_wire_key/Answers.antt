@@ -11,61 +11,12 @@ use Rattle.account.specs.SkippedLines.{skipped_by}
 use Rattle.account.specs.PlacedLines.{lent}
 use Rattle.account.specs.WireLines.{range_in}
 use Rattle.elements.proofs.WireKeys.{wire-row, key-misplaced, key-hidden, key-front, key-once, unknown_in-wire}
-use borrow.Author.Rules.{rules}
 use Rattle.elements.proofs.wires.on_wire_key.Goals as goal
-
-pub rest_of-rest-requires : goal.rest_of-rest-requires
-rest_of-rest-requires c = search rules
-
-pub bounds-tally-12 : goal.bounds-tally-12
-bounds-tally-12 c = search rules
-
-pub key_of-requires : goal.key_of-requires
-key_of-requires c = search rules
-
-pub part-requires : goal.part-requires
-part-requires c = search rules
-
-pub row_of-requires : goal.row_of-requires
-row_of-requires c = search rules
-
-pub enum_told-1 : goal.enum_told-1
-enum_told-1 c = search rules
-
-pub digits_of-requires : goal.digits_of-requires
-digits_of-requires c = search rules
-
-pub past-requires : goal.past-requires
-past-requires c = search rules
-
-pub on_unknown-requires : goal.on_unknown-requires
-on_unknown-requires c = search rules
-
-pub enum_known-row : goal.enum_known-row
-enum_known-row c = search rules
-
-pub is_misplaced-requires : goal.is_misplaced-requires
-is_misplaced-requires c = search rules
-
-pub not_here-requires : goal.not_here-requires
-not_here-requires c = search rules
 
 pub returns-then-is_misplaced : goal.returns-then-is_misplaced
 returns-then-is_misplaced c =
     let e = rw (c.in-Some.is, c.part.ensures, c.key_of.ensures) at c.row_of.ensures in
     key-misplaced (bytes_at c.args.s.now (key_of c.args.x.form)) c.in-Some.row e (known_in c.args.s.now c.args.symbols.now c.args.layers.now) c.args.x.class (range_in c.args.tally.now) c.args.x.here c.args.x.at (lent c.args.tally.now c.args.serials.now c.args.marks.now c.args.inner.now) (lent c.args.tally.now c.args.serials.now c.args.marks.now c.args.inner.now) c.args.t.now c.args.t.now _ (skipped_by (form_in c.args.s.now c.args.x.form)) (rest_in c.args.s.now (rest_of c.args.x.form)) c.is_misplaced.result c.is_misplaced.ensures c.if-is_misplaced.true (rw c.rest_of-rest.ensures at c.not_here.ensures)
-
-pub reaches-requires : goal.reaches-requires
-reaches-requires c = search rules
-
-pub digits_of-requires-then-not-reaches : goal.digits_of-requires-then-not-reaches
-digits_of-requires-then-not-reaches c = search rules
-
-pub past-requires-then-not-reaches : goal.past-requires-then-not-reaches
-past-requires-then-not-reaches c = search rules
-
-pub on_unknown-requires-then-not-reaches : goal.on_unknown-requires-then-not-reaches
-on_unknown-requires-then-not-reaches c = search rules
 
 pub returns-then-not-reaches : goal.returns-then-not-reaches
 returns-then-not-reaches c =
@@ -83,12 +34,6 @@ front_row-requires c =
     let h = c.requires in
     (h.0, h.1, h.2, c.if-number-lt-ROW_TEXT.true, (wire-row (bytes_at c.args.s.now (key_of c.args.x.form)) c.in-Some.row e).1, h.3.open-wire, h.3.shelves)
 
-pub shape_of-marks-then-number-lt-ROW_TEXT : goal.shape_of-marks-then-number-lt-ROW_TEXT
-shape_of-marks-then-number-lt-ROW_TEXT c = search rules
-
-pub shape_of-t-then-number-lt-ROW_TEXT : goal.shape_of-t-then-number-lt-ROW_TEXT
-shape_of-t-then-number-lt-ROW_TEXT c = search rules
-
 pub returns-then-number-lt-ROW_TEXT : goal.returns-then-number-lt-ROW_TEXT
 returns-then-number-lt-ROW_TEXT c =
     let e = rw (c.in-Some.is, c.part.ensures, c.key_of.ensures) at c.row_of.ensures in
@@ -104,21 +49,6 @@ pub returns-in-None : goal.returns-in-None
 returns-in-None c =
     let e = rw (c.in-None.is, c.part.ensures, c.key_of.ensures) at c.row_of.ensures in
     rw (no_row (find (bytes_at c.args.s.now (key_of c.args.x.form)) (table_of 20)) e) (unknown_in-wire (known_in c.args.s.now c.args.symbols.now c.args.layers.now) c.args.x.class (range_in c.args.tally.now) c.args.x.here c.args.x.at (lent c.args.tally.now c.args.serials.now c.args.marks.now c.args.inner.now) c.args.t.now _ (skipped_by (form_in c.args.s.now c.args.x.form)) (rest_in c.args.s.now (rest_of c.args.x.form)) _ _ c.digits_of.ensures c.past.ensures (rw c.rest_of-rest.ensures at c.on_unknown.ensures))
-
-pub shape_of-tally : goal.shape_of-tally
-shape_of-tally c = search rules
-
-pub shape_of-serials : goal.shape_of-serials
-shape_of-serials c = search rules
-
-pub shape_of-marks : goal.shape_of-marks
-shape_of-marks c = search rules
-
-pub shape_of-inner : goal.shape_of-inner
-shape_of-inner c = search rules
-
-pub shape_of-t : goal.shape_of-t
-shape_of-t c = search rules
 
 pub returns-else-number-lt-ROW_TEXT : goal.returns-else-number-lt-ROW_TEXT
 returns-else-number-lt-ROW_TEXT c =

@@ -10,15 +10,6 @@ use Rattle.elements.proofs.WireKeys.{entered-serial, entered-other}
 use borrow.Author.Rules.{rules}
 use Rattle.elements.proofs.wires.once_entered.Goals as goal
 
-pub bounds-marks-row : goal.bounds-marks-row
-bounds-marks-row c = search rules
-
-pub past-requires : goal.past-requires
-past-requires c = search rules
-
-pub bounds-t-85 : goal.bounds-t-85
-bounds-t-85 c = search rules
-
 pub overflow_cast-t : goal.overflow_cast-t
 overflow_cast-t c =
     let f : SFits w64 (get_or c.args.t.now 85 (pos 0)) = search rules in
@@ -31,25 +22,10 @@ keep_own-requires c =
     let m = (h.6 c.if-row-eq-ROW_SERIAL.true).most in
     (h.0, h.1, h.3, omega (arith, own_back (get_or c.args.t.now 85 (pos 0)) f, m), h.2)
 
-pub shape_of-tally-then-row-eq-ROW_SERIAL : goal.shape_of-tally-then-row-eq-ROW_SERIAL
-shape_of-tally-then-row-eq-ROW_SERIAL c = search rules
-
-pub shape_of-serials-then-row-eq-ROW_SERIAL : goal.shape_of-serials-then-row-eq-ROW_SERIAL
-shape_of-serials-then-row-eq-ROW_SERIAL c = search rules
-
-pub shape_of-marks-then-row-eq-ROW_SERIAL : goal.shape_of-marks-then-row-eq-ROW_SERIAL
-shape_of-marks-then-row-eq-ROW_SERIAL c = search rules
-
 pub returns-then-row-eq-ROW_SERIAL : goal.returns-then-row-eq-ROW_SERIAL
 returns-then-row-eq-ROW_SERIAL c =
     let f : SFits w64 (get_or c.args.t.now 85 (pos 0)) = search rules in
     entered-serial c.args.here c.args.row (own_in c.args.t.now) c.args.content _ c.args.tally.now _ c.args.serials.now _ c.args.marks.now [] _ c.if-row-eq-ROW_SERIAL.true c.past.ensures (rw (own_back (get_or c.args.t.now 85 (pos 0)) f) at c.keep_own.ensures)
-
-pub past-requires-2 : goal.past-requires-2
-past-requires-2 c = search rules
-
-pub shape_of-marks : goal.shape_of-marks
-shape_of-marks c = search rules
 
 pub returns : goal.returns
 returns c = entered-other c.args.here c.args.row (own_in c.args.t.now) c.args.content _ c.args.tally.now c.args.serials.now c.args.marks.now [] c.if-row-eq-ROW_SERIAL.false c.past-2.ensures

@@ -6,15 +6,6 @@ use mir.Val.{SFits}
 use borrow.Author.Rules.{rules}
 use Rattle.elements.proofs.wires.put_element.Goals as goal
 
-pub join_number-join-requires : goal.join_number-join-requires
-join_number-join-requires c = search rules
-
-pub overflow_add-row : goal.overflow_add-row
-overflow_add-row c = search rules
-
-pub head-requires : goal.head-requires
-head-requires c = search rules
-
 pub bounds-t-11 : goal.bounds-t-11
 bounds-t-11 c = put-room (20 + c.args.row) c.args.here.owner c.args.at c.args.t.now _ c.head.ensures c.requires.1
 
