@@ -26,7 +26,8 @@ pub struct Where {
     pub ends: bool,
 }
 
-// Which block is open. (These numbers and the following have the same names in specs/Numbering.)
+// Which block is open. (These numbers and the following have the same names in specs/Numbering; they are numbers and no enums, as `Now` is
+// public and the tables hold the inner blocks by number.)
 pub const BLOCK_TOP: u8 = 0;
 
 pub const BLOCK_FILE: u8 = 1;

@@ -4,7 +4,7 @@ use Rattle.std.specs.List.{list_all, slice_split}
 use Prim.Native.Nat.{ℕ, suc, ◌+◌, ◌-◌, ◌<◌, ◌≤◌}
 use mathlib.Core.Path.{◌≡◌, refl, ap, sym, subst, ◌∙◌}
 use mathlib.Core.Bool.{Bool, true, false, cond, ◌&&◌}
-use mathlib.Core.List.{List, [], ◌∷◌}
+use mathlib.Core.List.{List, [], ◌∷◌, map}
 use native.Mathlib.Omega.{arith}
 use lib.Dec.{eqb, leb}
 use lib.IntN.{ℤ, pos}
@@ -14,7 +14,7 @@ use borrow.Author.Tests.{leb-true, leb-false, le-leb, lt-leb}
 use Rattle.rules.specs.Base.{same, Cut, whole, parts, cut, split}
 use Rattle.rules.specs.RefusalNumbers.{Got, got, bad, unless, map_g, or_bad, keep, cons_g}
 use Rattle.rules.specs.Numbers.{read_count}
-use Rattle.rules.specs.Values.{Num, num, natural, two_nums, Known, Kind, read_kind, Value, nums, linked, linked_of, find_sheet, good_ratio, with_one, ratio_parts, read_counts, read_ratio, read_serials, most_partners}
+use Rattle.rules.specs.Values.{Num, num, natural, two_nums, Known, Kind, read_kind, Value, nums, linked, linked_of, chars, capital, find_sheet, good_ratio, with_one, ratio_parts, read_counts, read_ratio, read_serials, most_partners}
 use Rattle.rules.specs.RecordTable.{numbers}
 use Rattle.rules.proofs.Chains.{by_cond, and_left, and_right}
 use Rattle.leaves.specs.Bytes.{up_to}
@@ -28,6 +28,17 @@ use Rattle.entries.proofs.Commas.{split-is}
 use Rattle.entries.specs.Entering.{On, Puts, done_of, put_val, long_of, serials_in}
 
 -- ── texts ──
+-- ── texts ──
+capital-long : (c : List ℕ) → length (map capital c) ≡ length c
+capital-long [] = refl
+capital-long (b ∷ c) = ap suc (capital-long c)
+
+-- a name is entered alike in capitals and without: by its place and length
+pub name-put : (b : Bool) (at : ℕ) (c : List ℕ) (t t₁ : List ℤ) (p : ℕ) (a : Result ⊤ ℕ) → Puts (unless b 11 (got (chars at c))) (λ v. sets t p (numbers v)) t₁ a
+    → Puts (unless b 11 (got (chars at (map capital c)))) (λ v. sets t p (numbers v)) t₁ a
+name-put true at c t t₁ p a h = record { eq = h.eq; filled = rw (capital-long c) h.filled }
+name-put false at c t t₁ p a h = record { eq = h.eq; filled = tt }
+
 -- ── sheets and scales: two natural numbers ──
 abbrev pub Two : List Num → Type 0
 Two v = v ≡ two_nums (number_at v 0) (number_at v 1)

@@ -1,9 +1,9 @@
 // The content of a line, by what its row holds.
 ghost use Rattle.std.specs.Prelude.{◌≡◌, true, [], ◌∷◌, ◌+◌, ◌<◌, ◌≤◌, pos, length};
 ghost use Rattle.std.proofs.lemmas.List.Edits.{sets};
-ghost use Rattle.rules.specs.Values.{read_text, read_kind, volume_name, sheet, ratio, serials};
+ghost use Rattle.rules.specs.RefusalNumbers.{unless, got};
+ghost use Rattle.rules.specs.Values.{chars, read_kind, sheet, ratio, serials};
 ghost use Rattle.rules.specs.RecordTable.{numbers, columns};
-ghost use Rattle.leaves.specs.Bytes.{bytes_of};
 ghost use Rattle.tables.specs.Rows.{kind_of};
 ghost use Rattle.entries.specs.Names.{known_in, known_of};
 ghost use Rattle.entries.specs.Entering.{Puts, settled, serials_in};
@@ -31,24 +31,12 @@ pub(crate) fn put_two(a: u64, b: u64, p: usize, rec: &mut [i64])
     rec[p + 1] = b as i64;
 }
 
-// A text: its place and length.
-fn chars(most: u8, set: u8, at: u32, c: &[u8], p: usize, rec: &mut [i64]) -> Result<(), u8>
+// A text that keeps its rule: its place and length.
+fn put_text(keeps: bool, at: u32, c: &[u8], p: usize, rec: &mut [i64]) -> Result<(), u8>
     requires { (length c.now ≤ 61440) × (p + 2 ≤ length rec.old) }
-    ensures { Puts (read_text most (bytes_of set) at c.now) (λ v. sets rec.old p (numbers v)) rec.new result }
+    ensures { Puts (unless keeps 11 (got (chars at c.now))) (λ v. sets rec.old p (numbers v)) rec.new result }
 {
-    if !fits(c, most, set) {
-        return Err(11);
-    }
-    put_two(at as u64, c.len() as u64, p, rec);
-    Ok(())
-}
-
-// The name of the next volume.
-fn volume_name(at: u32, c: &[u8], p: usize, rec: &mut [i64]) -> Result<(), u8>
-    requires { (length c.now ≤ 61440) × (p + 2 ≤ length rec.old) }
-    ensures { Puts (read_kind (known_in [] [] []) volume_name at c.now) (λ v. sets rec.old p (numbers v)) rec.new result }
-{
-    if !all_in(c, 2) {
+    if !keeps {
         return Err(11);
     }
     put_two(at as u64, c.len() as u64, p, rec);
@@ -112,8 +100,8 @@ pub(crate) fn read_kind(
     ensures { Puts (read_kind (known_of known.now) (kind_of row) at c.now) (λ v. sets rec.old p (numbers v)) rec.new result }
 {
     match row.kind {
-        HOLDS_TEXT | HOLDS_WORD => chars(row.most, row.set, at, c, p, rec),
-        HOLDS_VOLUME_NAME => volume_name(at, c, p, rec),
+        HOLDS_TEXT | HOLDS_WORD => put_text(fits(c, row.most, row.set), at, c, p, rec),
+        HOLDS_VOLUME_NAME => put_text(all_in(c, 2), at, c, p, rec),
         HOLDS_SHEET => put_sheet(c, p, rec),
         HOLDS_RATIO => put_ratio(c, p, rec),
         HOLDS_SERIALS => put_serials(c, p, rec),

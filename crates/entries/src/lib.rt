@@ -53,7 +53,7 @@ pub enum Rest {
     Equals(Span),
 }
 
-// Which of the five a shape is, in their order.
+// Which of the five a shape is, in their order: `sort_of` of shapes is public, and other crates compare what it answers with these numbers.
 pub const SORT_OPENER: u8 = 0;
 
 pub const SORT_NO_CONTENT: u8 = 1;

@@ -100,6 +100,7 @@ fn entered(row: Row, full: bool, shape: Shape) -> Next
     }
 }
 
+// What is wrong with a line is asked in this order, as each has a refusal of its own.
 fn act_shape(
     row: Row,
     known: &Known<'_>,

@@ -4,7 +4,7 @@ use Rattle.std.proofs.Common.{rules}
 use Rattle.rules.specs.Values.{read_part}
 use Rattle.tables.specs.Rows.{part_of, kind_of, values_of}
 use Rattle.entries.specs.Names.{known_of}
-use Rattle.entries.proofs.ByKind.{one-put, puts-values}
+use Rattle.entries.proofs.ByKind.{name-put, one-put, puts-values}
 use Rattle.entries.proofs.contents.read_kind.Goals as goal
 
 pub returns-in-9 : goal.returns-in-9
@@ -16,7 +16,13 @@ pub returns-in-1 : goal.returns-in-1
 returns-in-1 c =
     let k = c.args.row.kind in
     let e : (k ≡ 1) ⊎ (k ≡ 2) = search rules in
-    elim e [ inl e ↦ rw e c.chars.ensures | inr e ↦ rw e c.chars.ensures ]
+    let h = rw c.fits.ensures at c.put_text-in-1.ensures in
+    elim e [ inl e ↦ rw e h | inr e ↦ rw e h ]
+
+pub returns-in-3 : goal.returns-in-3
+returns-in-3 c =
+    let a = c.args in
+    rw c.in-3.is (name-put _ a.at a.c.now a.rec.now _ a.p _ (rw c.all_in.ensures at c.put_text.ensures))
 
 pub returns-in-7 : goal.returns-in-7
 returns-in-7 c =
