@@ -69,8 +69,7 @@ fn read_set(s: &[u8], class: Class, limit: usize, t: &mut [i64]) -> Result<u32, 
     let places = l.places;
     let lengths = l.lengths;
     let mut here = nothing_yet();
-    let mut i = 0;
-    while i < count {
+    for i in 0..count {
         let following = name_behind(s, places, count, i);
         let start = places[i];
         let body = part(
@@ -84,7 +83,7 @@ fn read_set(s: &[u8], class: Class, limit: usize, t: &mut [i64]) -> Result<u32, 
             number: i as u8 + 1,
             at: start,
         };
-        let r = read_volume(
+        here = read_volume(
             s,
             body,
             following,
@@ -98,16 +97,7 @@ fn read_set(s: &[u8], class: Class, limit: usize, t: &mut [i64]) -> Result<u32, 
             &mut used_all,
             limit,
             t,
-        );
-        match r {
-            Ok(n) => {
-                here = n;
-            }
-            Err(f) => {
-                return Err(f);
-            }
-        }
-        i += 1;
+        )?;
     }
     Ok(here.records as u32)
 }
@@ -119,21 +109,18 @@ pub fn read(s: &[u8], class: u64, wire: u64, t: &mut [i64]) -> Result<u32, Refus
 {
     let limit = t.len() / WIDTH;
     clear(t);
-    match class_of(class, wire) {
-        None => Err(Refusal {
+    let Some(c) = class_of(class, wire) else {
+        return Err(Refusal {
             number: 1,
             volume: 0,
             line: 0,
-        }),
-        Some(c) => {
-            let r = read_set(s, c, limit, t);
-            match r {
-                Ok(n) => Ok(n),
-                Err(f) => {
-                    clear(t);
-                    Err(f)
-                }
-            }
+        });
+    };
+    match read_set(s, c, limit, t) {
+        Ok(n) => Ok(n),
+        Err(f) => {
+            clear(t);
+            Err(f)
         }
     }
 }
@@ -143,17 +130,15 @@ pub fn read(s: &[u8], class: u64, wire: u64, t: &mut [i64]) -> Result<u32, Refus
 pub fn check(s: &[u8], class: u64, wire: u64, records: u32) -> Result<u32, Refusal>
     ensures { result ≡ read_answer class wire (records * width) s.now }
 {
-    match class_of(class, wire) {
-        None => Err(Refusal {
+    let Some(c) = class_of(class, wire) else {
+        return Err(Refusal {
             number: 1,
             volume: 0,
             line: 0,
-        }),
-        Some(c) => {
-            let mut nothing = [0i64; 1];
-            read_set(s, c, records as usize, &mut nothing)
-        }
-    }
+        });
+    };
+    let mut nothing = [0i64; 1];
+    read_set(s, c, records as usize, &mut nothing)
 }
 
 // More records than any spool has: a line is two bytes long at least, and takes two records at most.

@@ -1,3 +1,4 @@
+use Rattle.std.proofs.lemmas.Result.{err_from_is_err_and}
 use mathlib.Core.Path.{refl, sym, ◌∙◌}
 use native.Mathlib.Omega.{arith}
 use lib.ListN.{length}
@@ -37,23 +38,16 @@ overflow_add-v c = omega (arith, count-few c.args.class c.args.s.now c.args.limi
 pub slice_bounds-read_volume-end : goal.slice_bounds-read_volume-end
 slice_bounds-read_volume-end c = search (rules, tally-long c.args.class c.args.s.now c.args.limit (length c.args.t.now) c.volumes-l.result c.loop-i.i (volume_desk c.loop-i.here c.loop-i.tally c.loop-i.symbols c.loop-i.layers c.loop-i.serials c.loop-i.used_all) c.loop-i.t c.loop-i.invariant)
 
-pub read_volume-r-requires : goal.read_volume-r-requires
-read_volume-r-requires c = volume_ready c.args.class c.args.s.now c.args.limit (length c.args.t.now) c.volumes-l.result c.loop-i.i (volume_desk c.loop-i.here c.loop-i.tally c.loop-i.symbols c.loop-i.layers c.loop-i.serials c.loop-i.used_all) c.loop-i.t c.loop-i.invariant c.loop-i-test.true c.part-body.result.now c.part-body.ensures c.requires.1
+pub read_volume-requires : goal.read_volume-requires
+read_volume-requires c = volume_ready c.args.class c.args.s.now c.args.limit (length c.args.t.now) c.volumes-l.result c.loop-i.i (volume_desk c.loop-i.here c.loop-i.tally c.loop-i.symbols c.loop-i.layers c.loop-i.serials c.loop-i.used_all) c.loop-i.t c.loop-i.invariant c.loop-i-test.true c.part-body.result.now c.part-body.ensures c.requires.1
 
-pub shape_of-t-in-Err : goal.shape_of-t-in-Err
-shape_of-t-in-Err c = c.read_volume-r.auto.t ∙ c.loop-i.invariant.long
-
-pub returns-in-Err : goal.returns-in-Err
-returns-in-Err c = stops c.args.class c.args.s.now c.args.limit (length c.args.t.now) c.volumes-l.result c.loop-i.i (volume_desk c.loop-i.here c.loop-i.tally c.loop-i.symbols c.loop-i.layers c.loop-i.serials c.loop-i.used_all) c.loop-i.t c.loop-i.invariant c.loop-i-test.true c.part-body.result.now c.part-body.ensures c.name_behind-following.result.now c.name_behind-following.ensures _ _ c.read_volume-r.result c.read_volume-r.ensures c.in-Err.f c.in-Err.is
-
-pub overflow_add-i : goal.overflow_add-i
-overflow_add-i c = omega (arith, count-few c.args.class c.args.s.now c.args.limit (length c.args.t.now) c.volumes-l.result c.loop-i.i (volume_desk c.loop-i.here c.loop-i.tally c.loop-i.symbols c.loop-i.layers c.loop-i.serials c.loop-i.used_all) c.loop-i.t c.loop-i.invariant, c.loop-i-test.true)
-
-pub loop-i-smaller : goal.loop-i-smaller
-loop-i-smaller c = omega (arith, c.loop-i-test.true)
+pub returns-in_err-here : goal.returns-in_err-here
+returns-in_err-here c =
+    let p = err_from_is_err_and c.from_residual.result c.from_residual.ensures.1 in
+    rw (p.1, p.2) (stops c.args.class c.args.s.now c.args.limit (length c.args.t.now) c.volumes-l.result c.loop-i.i (volume_desk c.loop-i.here c.loop-i.tally c.loop-i.symbols c.loop-i.layers c.loop-i.serials c.loop-i.used_all) c.loop-i.t c.loop-i.invariant c.loop-i-test.true c.part-body.result.now c.part-body.ensures c.name_behind-following.result.now c.name_behind-following.ensures _ _ c.read_volume.result c.read_volume.ensures c.in_err-here.field-0.0 c.in_err-here.was)
 
 pub loop-i-preserved : goal.loop-i-preserved
-loop-i-preserved c = goes c.args.class c.args.s.now c.args.limit (length c.args.t.now) c.volumes-l.result c.loop-i.i (volume_desk c.loop-i.here c.loop-i.tally c.loop-i.symbols c.loop-i.layers c.loop-i.serials c.loop-i.used_all) c.loop-i.t c.loop-i.invariant c.loop-i-test.true c.part-body.result.now c.part-body.ensures c.name_behind-following.result.now c.name_behind-following.ensures _ _ c.read_volume-r.result c.read_volume-r.ensures c.in-Ok.n c.in-Ok.is c.read_volume-r.auto.t refl
+loop-i-preserved c = goes c.args.class c.args.s.now c.args.limit (length c.args.t.now) c.volumes-l.result c.loop-i.i (volume_desk c.loop-i.here c.loop-i.tally c.loop-i.symbols c.loop-i.layers c.loop-i.serials c.loop-i.used_all) c.loop-i.t c.loop-i.invariant c.loop-i-test.true c.part-body.result.now c.part-body.ensures c.name_behind-following.result.now c.name_behind-following.ensures _ _ c.read_volume.result c.read_volume.ensures c.in_ok-here.here c.in_ok-here.was c.read_volume.auto.t refl
 
 pub overflow_cast-result-2 : goal.overflow_cast-result-2
 overflow_cast-result-2 c = omega (arith, few-records c.args.class c.args.s.now c.args.limit (length c.args.t.now) c.volumes-l.result c.loop-i.i (volume_desk c.loop-i.here c.loop-i.tally c.loop-i.symbols c.loop-i.layers c.loop-i.serials c.loop-i.used_all) c.loop-i.t c.loop-i.invariant c.loop-i-test.false)
