@@ -66,9 +66,6 @@ within_none before = record { long = refl; within = λ n e. let z : 0 ≡ n = cc
 pub within-full : (before after : List ℕ) → length after ≡ length before → Within before after (Err no_room)
 within-full before after e = record { long = e; within = λ n z. full-not z }
 
-pub within-here : (before after : List ℕ) (n : ℕ) → Within before after (Ok n) → n ≤ length after
-within-here before after n w = omega (arith, w.within n refl, w.long)
-
 pub within_mid : (before mid after : List ℕ) (r : Result ℕ NoRoom) → length mid ≡ length before → Within mid after r → Within before after r
 within_mid before mid after r e w = record { long = w.long ∙ e; within = λ n z. omega (arith, w.within n z, e) }
 

@@ -5,7 +5,7 @@ use mathlib.Core.Bool.{Bool, true, false, cond, not, ◌||◌}
 use mathlib.Core.List.{List, [], ◌∷◌}
 use mathlib.Core.Path.{◌≡◌, refl, sym, ◌∙◌, ap, subst}
 use native.Mathlib.Omega.{arith}
-use borrow.Author.Tests.{not-true, eqb-false, eqb-true}
+use borrow.Author.Tests.{not-true, eqb-false}
 use lib.Dec.{eqb}
 use lib.ListN.{length, set, length-set, length-replicate, get_or-map}
 use Rattle.rules.specs.Values.{Value, Known, Kind, opens}
@@ -21,10 +21,9 @@ use Rattle.entries.specs.declared.Rest.{Rest}
 use Rattle.keywords.specs.Keys.{key_at}
 use Rattle.pens.specs.declared.Pen.{Pen}
 use Rattle.pens.specs.Texts.{ended, Draws}
-use Rattle.pens.specs.Moves.{moved, at_once, figure_block, key_pen, file_pen, placed_pen, is_element, wire_pen, table_for}
+use Rattle.pens.specs.Moves.{moved, at_once, figure_block, key_pen, file_pen, placed_pen, is_element, wire_pen}
 use Rattle.pens.specs.Noting.{note_of, notes_from, forgotten, text_forgotten, figure_notes, key_notes}
 use Rattle.pens.specs.Keys.{KeyDone}
-use Rattle.pens.specs.KeyWriting.{plain_table_of}
 use Rattle.pens.specs.Writing.{IsRow}
 use Rattle.pens.specs.Closing.{in_part}
 use Rattle.pens.proofs.RowsNoted.{kind-closed, inner-is}
@@ -183,9 +182,6 @@ figure-is t n q row b e i = e ∙ ap (λ (d : Kind). figure_block d (inner_of d)
 
 -- ── the table by its number ──
 module _ (p : Pen) (rest : Rest) (k : Known) (q : Rule) (v : Value) (ns₀ ns₁ before after : List ℕ) (d : Result Pen NoRoom) (row : Row) where
-  pub of-table : (t u : ℕ) → t ≡ u → (IsRow u row.number q row → KeyDone u p rest k row.number q v ns₀ ns₁ before after d) → IsRow t row.number q row
-      → KeyDone t p rest k row.number q v ns₀ ns₁ before after d
-  of-table t u e f i = subst (λ (x : ℕ). KeyDone x p rest k row.number q v ns₀ ns₁ before after d) (sym e) (f (subst (λ (x : ℕ). IsRow x row.number q row) e i))
 
   pub on_row : (given key : List ℕ) (table t j : ℕ) (r : Option Row) → given ≡ key → table ≡ t → r ≡ Some row → found_for_line (find given (table_of table)) ≡ found_of r
       → find key (table_of t) ≡ found j q → (IsRow table row.number q row → KeyDone table p rest k row.number q v ns₀ ns₁ before after d) → KeyDone t p rest k j q v ns₀ ns₁ before after d
@@ -201,22 +197,3 @@ pub no_row : {P : Type 0} (given key : List ℕ) (table t j : ℕ) (q : Rule) (r
 no_row given key table t j q r a b c e f =
     found_none given table j q (e ∙ ap found_of c) (ap (λ (x : List ℕ). find x (table_of table)) a ∙ ap (λ (x : ℕ). find key (table_of x)) b ∙ f)
 
--- a block that has one table alone has that one
-pub plain-table : (first : Bool) (p : Pen) (brace : Bool) (t : ℕ) → t ≡ table_for first p brace → t ≡ plain_table_of p t
-plain-table first p brace t e = at_top (eqb p.block 0) refl
-  where
-    at_symbol : (b : Bool) → eqb p.block 5 ≡ b → eqb p.block 0 ≡ false → eqb p.block 2 ≡ false → eqb p.block 4 ≡ false → t ≡ plain_table_of p t
-    at_symbol true h x y z = e ∙ rw (eqb-true p.block 5 h)
-    at_symbol false h x y z = sym (rw (x, y, z, h))
-
-    at-defines : (b : Bool) → eqb p.block 4 ≡ b → eqb p.block 0 ≡ false → eqb p.block 2 ≡ false → t ≡ plain_table_of p t
-    at-defines true h x y = e ∙ rw (eqb-true p.block 4 h)
-    at-defines false h x y = at_symbol (eqb p.block 5) refl x y h
-
-    at-drawing : (b : Bool) → eqb p.block 2 ≡ b → eqb p.block 0 ≡ false → t ≡ plain_table_of p t
-    at-drawing true h x = e ∙ rw (eqb-true p.block 2 h)
-    at-drawing false h x = at-defines (eqb p.block 4) refl x h
-
-    at_top : (b : Bool) → eqb p.block 0 ≡ b → t ≡ plain_table_of p t
-    at_top true h = e ∙ rw (eqb-true p.block 0 h)
-    at_top false h = at-drawing (eqb p.block 2) refl h

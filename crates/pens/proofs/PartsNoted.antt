@@ -169,19 +169,8 @@ module _ (spool : List ℕ) (b : ℕ) (ns : List ℕ) where
   part_none depth inner before e = (λ _. prints-none before, λ n k h p z l t. absurd (eqb-false (part_table b p) 255 (part-table b p n l).known (sym t ∙ e)))
 
   module _ (depth inner : ℕ) (there : inner ≡ 255 → ⊥) (before x : List ℕ) where
-    pub part-full : PrintsRows spool depth b inner 0 ns before x (Err no_room) → PrintsPart spool depth b inner ns before x (Err no_room)
-    part-full f = (
-      λ e. absurd (there e),
-      λ n k h p z l t.
-          let r : List ℕ = line_bytes (rows_from k b h depth p 0) in first-full r shut_bytes before x (unprinted r before x (f n k h p z l t)),
-    )
 
     module _ (n : ℕ) (f : PrintsRows spool depth b inner 0 ns before x (Ok n)) (y : List ℕ) where
-      pub part-end-full : Prints shut_bytes (rest before x y n) y (Err no_room) → PrintsPart spool depth b inner ns before (whole before x y n) (Err no_room)
-      part-end-full q = (
-        λ e. absurd (there e),
-        λ m k h p z l t. behind-full before x y n (line_bytes (rows_from k b h depth p 0)) shut_bytes (f m k h p z l t) (whole before x y n) q,
-      )
 
       pub part-printed : (i : ℕ) → Prints shut_bytes (rest before x y n) y (Ok i) → PrintsPart spool depth b inner ns before (whole before x y n) (Ok (n + i))
       part-printed i q = (
@@ -245,10 +234,6 @@ module _ (spool : List ℕ) (b : ℕ) (ns : List ℕ) where
           subst (λ (u : List ℕ). Prints u before (whole before x y i) (Ok (i + a))) (text n k h p z l t m)
           (behind-prints before x y i r _ f a (part n k h p z l t m (rest before x y i) y (Ok a) (printed r before x i f).1 g))
 
-  -- the rows from number j on
-  pub rows_none : (depth table j : ℕ) (before : List ℕ) → depth ≡ 0 → PrintsRows spool depth b table j ns before before (Ok 0)
-  rows_none depth table j before e = subst (λ (d : ℕ). PrintsRows spool d b table j ns before before (Ok 0)) (sym e) (λ n k h p z l t. prints-none before)
-
   pub rows_last : (depth table j : ℕ) (before : List ℕ) → rows_in table ≤ j → PrintsRows spool depth b table j ns before before (Ok 0)
   rows_last depth table j before f n k h p z l t =
       let last : length (rows_of b p) ≤ j = omega (arith, f, ap rows_in t, (part-table b p n l).many) in
@@ -288,14 +273,6 @@ module _ (spool : List ℕ) (b : ℕ) (ns : List ℕ) where
 cond-most : (m : ℕ) (t : Bool) (a c : ℕ) → a ≤ m → c ≤ m → cond t a c ≤ m
 cond-most m true a c p q = p
 cond-most m false a c p q = q
-
-pub rows_few : (t : ℕ) → rows_in t ≤ 16
-rows_few t =
-    most (eqb t 1) _ _ (omega arith) (most (eqb t 2) _ _ (omega arith) (most (eqb t 3) _ _ (omega arith) (most (eqb t 4) _ _ (omega arith)
-    (most (eqb t 5) _ _ (omega arith) (most (eqb t 6) _ _ (omega arith) (most (eqb t 7) _ _ (omega arith) (most (eqb t 18) _ _ (omega arith) (omega arith))))))))
-  where
-    most : (u : Bool) (a c : ℕ) → a ≤ 16 → c ≤ 16 → cond u a c ≤ 16
-    most = cond-most 16
 
 pub notes-few : (t : ℕ) → notes_from t ≤ 26
 notes-few t =

@@ -177,15 +177,6 @@ module _ (spool : List ℕ) (j : ℕ) (o : Opened) (before after : List ℕ) (r 
       go false q = record { text = []; rest = p.rest; is = p.text ∙ rw q; prints = w.other h.0 q; behind = outside; holds = refl; goes = λ _. p.goes; ends = λ e. clash e refl }
 
 -- ── the code's functions of a line ──
-pub over-shut : (o : Opened) (f : LineForm) → is_close f ≡ true → not o.text ≡ is_over o f
-over-shut o f e = rw e (go o.text)
-  where
-    go : (b : Bool) → not b ≡ cond b false true
-    go true = refl
-    go false = refl
-
-pub over-not : (o : Opened) (f : LineForm) → is_close f ≡ false → false ≡ is_over o f
-over-not o f e = sym (rw e)
 
 pub behind-shut : (o : Opened) (f : LineForm) (g : Option Row) (x : Opened) → is_close f ≡ true → x ≡ no_text → x ≡ opened_behind o f g
 behind-shut o f g x e n = n ∙ sym (rw e)

@@ -1,29 +1,27 @@
 -- Rows that were noted: the row of a number, whether its line opens a block, and the text of a part's rows taken apart at one of them.
-use Rattle.std.specs.Prelude.{Option, Some, None, Result, Ok, Err}
-use Prim.Native.Nat.{ℕ, ◌+◌, ◌*◌, ◌≤◌, ◌<◌}
+use Rattle.std.specs.Prelude.{Option, Some, None, Result}
+use Prim.Native.Nat.{ℕ, ◌≤◌, ◌<◌}
 use mathlib.Core.Bool.{Bool, true, false, cond, ◌||◌, not}
 use mathlib.Core.List.{List, [], ◌∷◌, ◌++◌, append_assoc}
 use mathlib.Core.Path.{◌≡◌, refl, sym, ◌∙◌, ap, subst}
 use native.Mathlib.Omega.{arith}
-use borrow.Author.Tests.{ne_eqb, le-ltb, lt-ltb}
-use lib.Dec.{eqb, ltb}
-use lib.ListN.{length, take, drop, length-append}
-use lib.Seq.{take_at}
+use borrow.Author.Tests.{ne_eqb}
+use lib.Dec.{eqb}
+use lib.ListN.{length, length-append}
 use Rattle.rules.specs.Base.{bytes, same}
 use Rattle.rules.specs.RefusalNumbers.{got}
 use Rattle.rules.specs.Lines.{Rest, Shape, opener, no_content, content, opening, formless}
 use Rattle.rules.specs.Numbers.{fixed}
 use Rattle.rules.specs.Values.{Value, Known, Kind, either, is_free, read_kind}
-use Rattle.rules.specs.Rows.{Rule, found, find, inner_of, is_opener as isOpenerShape, is_opening, fits, shape_for, Act, entry, begin, read_shape}
+use Rattle.rules.specs.Rows.{Rule, found, inner_of, is_opener as isOpenerShape, is_opening, fits, shape_for, Act, entry, begin, read_shape}
 use Rattle.rules.specs.FixedForm.{opens_block, behind, line_of}
 use Rattle.rules.proofs.Chains.{and_false, clash, never, map-got}
 use Rattle.promises.proofs.RowGood.{Sort, plain, empty_only, brace_only, heads, switch, sort, either-read, either-alone, either-opened}
-use Rattle.leaves.specs.Writing.{put_memory, Puts}
+use Rattle.leaves.specs.Writing.{put_memory}
 use Rattle.tables.specs.declared.Row.{Row as CodeRow}
-use Rattle.tables.specs.Rows.{kind_of, rule_of, for_line, found_for_line, found_of}
+use Rattle.tables.specs.Rows.{kind_of, rule_of, for_line, found_of}
 use Rattle.tables.specs.Tables.{table_of}
 use Rattle.entries.specs.declared.Rest.{Rest as CodeRest}
-use Rattle.entries.specs.declared.Rest.TheVariants as R
 use Rattle.entries.specs.declared.Shape.{Shape as Placed}
 use Rattle.entries.specs.declared.Shape.TheVariants as P
 use Rattle.entries.specs.Shapes.{rest_in, shape_in, sort_of, shape_by}
@@ -33,24 +31,15 @@ use Rattle.prints.specs.Reading.{Reads, PrintsRow}
 use Rattle.keywords.specs.Keys.{key_at}
 use Rattle.prints.specs.Printing.{Within}
 use Rattle.pens.specs.Moves.{is_opener}
-use Rattle.pens.specs.Noting.{note_of, rest_of, part_table}
+use Rattle.pens.specs.Noting.{rest_of, part_table}
 use Rattle.pens.specs.Closing.{row_bytes}
 use Rattle.pens.specs.Writing.{Named, IsRow, RestIs, FoundRow, RowAt, Opens, Spared, PrintsNoted, TellsInner}
 use Rattle.pens.proofs.Laying.{room}
-use Rattle.pens.proofs.Behind.{was-put, was-full, prints-full, prints-none, within-full, spared-same, spared-prints, key_spared}
+use Rattle.pens.proofs.Behind.{spared-same, spared-prints, key_spared}
 use Rattle.leaves.specs.declared.NoRoom.{NoRoom}
 use Rattle.tables.specs.declared.Row.{Row}
-use Rattle.leaves.specs.NoRoom.{no_room}
 
 -- ── a note ──
-pub note-far : (rest : CodeRest) (q : _) → rest ≡ R.Equals q → 65536 ≤ q.at → 1 ≡ note_of rest
-note-far rest q e h = sym (rw (e, le-ltb q.at 65536 h))
-
-pub note-long : (rest : CodeRest) (q : _) → rest ≡ R.Equals q → 65536 ≤ q.len → 1 ≡ note_of rest
-note-long rest q e h = sym (rw (e, le-ltb q.len 65536 h, and_false (ltb q.at 65536)))
-
-pub note-both : (rest : CodeRest) (q : _) → rest ≡ R.Equals q → q.at < 65536 → q.len < 65536 → q.at + 65536 * q.len ≡ note_of rest
-note-both rest q e h l = sym (rw (e, lt-ltb q.at 65536 h, lt-ltb q.len 65536 l))
 
 -- a row of any other kind holds more than an opener
 pub kind-closed : (r : CodeRow) → (r.kind ≡ 8 → ⊥) → is_opener (kind_of r) ≡ false
@@ -133,32 +122,6 @@ module _ (table number : ℕ) (before after : List ℕ) where
   abbrev key : List ℕ
   key = key_at (table_of table) number
 
-  pub row-full : Puts key before after (Err no_room) → RowAt table number before after None
-  row-full p = record {
-    memory = p.memory;
-    row = λ q w l. absurd (omega (arith, was-full key before after p, l, ap length w.key));
-    none-there = λ q w l. refl;
-  }
-
-  module _ (n : ℕ) (p : Puts key before after (Ok n)) where
-    pub key-room : n ≤ length after
-    key-room =
-        let z : (length key ≡ n) × (length key ≤ length before) × (after ≡ key ++ drop (length key) before) = was-put key before after n p in
-        omega (arith, z.0, ap length z.2, length-append key (drop (length key) before))
-
-    pub row-there : (r : Option Row) → found_for_line (find (take n after) (table_of table)) ≡ found_of r → RowAt table number before after r
-    row-there r e =
-        let z : (length key ≡ n) × (length key ≤ length before) × (after ≡ key ++ drop (length key) before) = was-put key before after n p in
-        let front : take n after ≡ key = ap (take n) z.2 ∙ take_at key (drop (length key) before) n z.0 in
-        record {
-          memory = p.memory;
-          row =
-              λ q w l.
-              found-row table number q r w
-              (sym (ap found_for_line (ap (λ (u : List ℕ). find u (table_of table)) (front ∙ w.key) ∙ w.found-so)) ∙ e);
-          none-there = λ q w l. absurd (omega (arith, z.1, l, ap length w.key));
-        }
-
 -- ── one row, where it was noted ──
 -- a row's line is longer than its key
 line-long : (k : Known) (q : Rule) (v : Value) → length q.key ≤ length (row_bytes k q (Some v))
@@ -186,9 +149,6 @@ inner-is r v =
     step false a b p q = q
 
 module _ (spool : List ℕ) (table number note : ℕ) (before : List ℕ) where
-  pub noted-none : note ≡ 0 → PrintsNoted spool table number note before before (Ok 0)
-  noted-none e k q None w z = prints-none before
-  noted-none e k q (Some v) w z = absurd (omega (arith, e, z.0))
 
   pub inner-none : (base : ℕ) → note ≡ 0 → TellsInner spool base table number note before before 255
   inner-none base e k q None w z = (spared-same [] before, λ _. refl)
@@ -204,19 +164,6 @@ module _ (spool : List ℕ) (table number note : ℕ) (before : List ℕ) where
     module _ (e : r ≡ None) where
       room-lacks : (q : Rule) → Named table number q → length q.key ≤ length before → ⊥
       room-lacks q w l = rw e at (a.row q w l)
-
-      pub noted-absent : Within before mid (Err no_room) × PrintsNoted spool table number note before mid (Err no_room)
-      noted-absent = (within-full before mid mid-long, prints)
-        where
-          prints : PrintsNoted spool table number note before mid (Err no_room)
-          prints k q None w z = absurd (there z)
-          prints k q (Some v) w z =
-              room (length q.key) (length before) (λ l. absurd (room-lacks q w l))
-              (λ l. prints-full (row_bytes k q (Some v)) before mid (omega (arith, l, line-long k q v)))
-
-      pub inner-absent : (base : ℕ) → TellsInner spool base table number note before mid 255
-      inner-absent base k q None w z = absurd (there z)
-      inner-absent base k q (Some v) w z = (mid_spared k q v w, λ l. absurd (room-lacks q w (omega (arith, l, line-long k q v))))
 
     module _ (row : CodeRow) (e : r ≡ Some row) (rest : CodeRest) (m : RestIs row note rest) where
       -- the row is found where there is room for its key

@@ -1,5 +1,5 @@
 -- What the code promises of a line with a key in each block, for the row that it was found under.
-use Rattle.std.specs.Prelude.{ℕ, Bool, cond, eqb, ◌≡◌, List, length, Result}
+use Rattle.std.specs.Prelude.{ℕ, Bool, ◌≡◌, List, length, Result}
 use Rattle.rules.specs.declared.Span.{Span}
 use Rattle.rules.specs.Values.{Value, Known}
 use Rattle.rules.specs.Rows.{Rule}
@@ -12,8 +12,7 @@ use Rattle.pens.specs.declared.Pen.{Pen}
 use Rattle.pens.specs.Texts.{ended, Draws, SafeAfter}
 use Rattle.pens.specs.Writing.{IsRow}
 use Rattle.pens.specs.Keys.{KeyDone, KeyLine, NamedLine}
-use Rattle.tables.specs.Numbering.{table_top, table_drawing, table_defines, table_symbol}
-use Rattle.account.specs.Numbering.{block_top, block_drawing, block_layer_names, block_defines, block_symbol}
+use Rattle.account.specs.Numbering.{block_layer_names}
 use Rattle.leaves.specs.declared.NoRoom.{NoRoom}
 
 -- in any case: the pen within the output, which is as long as before
@@ -32,12 +31,6 @@ abbrev pub RowDone : ℕ → Row → List ℕ → Rest → Pen → List ℕ → 
 RowDone table row spool rest p ns₀ ns₁ before after d =
     (k : Known) (q : Rule) (v : Value) → IsRow table row.number q row → Reads k q (rest_in spool rest) v
     → KeyDone table p rest k row.number q v ns₀ ns₁ before after d
-
--- the table of a block that has one alone, of others what it is
-abbrev pub plain_table_of : Pen → ℕ → ℕ
-plain_table_of p t =
-    cond (eqb p.block block_top) table_top
-    (cond (eqb p.block block_drawing) table_drawing (cond (eqb p.block block_defines) table_defines (cond (eqb p.block block_symbol) table_symbol t)))
 
 -- in `layer_name` a name, elsewhere a row
 pub record KeyOrName (spool : List ℕ) (first : Bool) (key : Span) (rest : Rest) (p : Pen) (ns₀ ns₁ before after : List ℕ) (d : Result Pen NoRoom) : Type 0 where
