@@ -182,7 +182,6 @@ figure-is t n q row b e i = e ∙ ap (λ (d : Kind). figure_block d (inner_of d)
 
 -- ── the table by its number ──
 module _ (p : Pen) (rest : Rest) (k : Known) (q : Rule) (v : Value) (ns₀ ns₁ before after : List ℕ) (d : Result Pen NoRoom) (row : Row) where
-
   pub on_row : (given key : List ℕ) (table t j : ℕ) (r : Option Row) → given ≡ key → table ≡ t → r ≡ Some row → found_for_line (find given (table_of table)) ≡ found_of r
       → find key (table_of t) ≡ found j q → (IsRow table row.number q row → KeyDone table p rest k row.number q v ns₀ ns₁ before after d) → KeyDone t p rest k j q v ns₀ ns₁ before after d
   on_row given key table t j r a b c e f g =
@@ -196,4 +195,3 @@ pub no_row : {P : Type 0} (given key : List ℕ) (table t j : ℕ) (q : Rule) (r
     → find key (table_of t) ≡ found j q → P
 no_row given key table t j q r a b c e f =
     found_none given table j q (e ∙ ap found_of c) (ap (λ (x : List ℕ). find x (table_of table)) a ∙ ap (λ (x : ℕ). find key (table_of x)) b ∙ f)
-

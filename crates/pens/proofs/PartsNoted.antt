@@ -169,9 +169,7 @@ module _ (spool : List ℕ) (b : ℕ) (ns : List ℕ) where
   part_none depth inner before e = (λ _. prints-none before, λ n k h p z l t. absurd (eqb-false (part_table b p) 255 (part-table b p n l).known (sym t ∙ e)))
 
   module _ (depth inner : ℕ) (there : inner ≡ 255 → ⊥) (before x : List ℕ) where
-
     module _ (n : ℕ) (f : PrintsRows spool depth b inner 0 ns before x (Ok n)) (y : List ℕ) where
-
       pub part-printed : (i : ℕ) → Prints shut_bytes (rest before x y n) y (Ok i) → PrintsPart spool depth b inner ns before (whole before x y n) (Ok (n + i))
       part-printed i q = (
         λ e. absurd (there e),

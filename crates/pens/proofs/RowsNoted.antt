@@ -149,7 +149,6 @@ inner-is r v =
     step false a b p q = q
 
 module _ (spool : List ℕ) (table number note : ℕ) (before : List ℕ) where
-
   pub inner-none : (base : ℕ) → note ≡ 0 → TellsInner spool base table number note before before 255
   inner-none base e k q None w z = (spared-same [] before, λ _. refl)
   inner-none base e k q (Some v) w z = absurd (omega (arith, e, z.0))

@@ -94,7 +94,8 @@ fn table_of(first: bool, pen: Pen, rest: Rest) -> u8
     }
 }
 
-// A line that is written at once, and the block that is open behind it.
+// A line that is written at once, and the block that is open behind it. The next two differ in the pen behind the line alone: a closure for it
+// would ask for two clauses more, and each has two lines.
 fn put_at_once(line: &Line<'_>, pen: Pen, block: u8, out: &mut [u8]) -> Result<Pen, NoRoom>
     requires { Safe pen out.old }
     ensures { Kept out.old out.new result × DrawsRow line.now.table line.now.row line.now.s.now line.now.rest pen (λ n. moved pen n block 0) out.old out.new result }
@@ -125,6 +126,7 @@ fn put_figures(line: &Line<'_>, pen: Pen, layered: bool, out: &mut [u8]) -> Resu
 fn note(line: &Line<'_>, notes: &mut [u32])
     ensures { notes.new ≡ set notes.old (notes_from line.now.table + line.now.row.number) (note_of line.now.rest) }
 {
+    // by its index: of what get_mut lends, a proof learns no other note
     let i = notes_from(line.table) + line.row.number as usize;
     if i < notes.len() {
         notes[i] = note_of(line.rest);

@@ -539,4 +539,3 @@ module _ (k : Known) (d : Digits) (full : Bool) (j : ℕ) (r : Rule) (c : Rest) 
       let (t6, g7) = unless-got (not full) 11 (got b) a g6 in
       let q : b ≡ a = cc in
       record { number = j; act = b; read = g5; value = ap value_of q; fit = t3 }
-

@@ -49,7 +49,7 @@ fn behind_first(forms: u64, alike: bool) -> u64
 }
 
 // All pieces of c by their forms, two decimal digits each, the first one last. By a loop: a serial has up to 101
-// of them, and a call for each would take 22 KB of stack.
+// of them, and a call for each would take 22 KB of stack. It ends in its middle: behind the last piece stands no comma.
 pub(crate) fn pieces(forms: u64, alike: bool, c: &[u8], out: &mut [u8]) -> Result<usize, NoRoom>
     ensures { Lays (pieces_text forms alike c.now) out.old out.new result }
 {
