@@ -29,7 +29,7 @@ use Rattle.account.specs.declared.Where.{Where}
 use Rattle.account.specs.declared.Step.{Step}
 use Rattle.account.specs.declared.Step.TheVariants as S
 use Rattle.account.specs.Account.{head_at}
-use Rattle.account.specs.FigureLines.{layer_table_number, home_table, home_rows, home_rule, line_kind, block_kind, more_figures, block_takes, figure_opened, figures_closed, unmarked_if, FigureLine}
+use Rattle.account.specs.FigureLines.{layer_table_number, home_table, home_rows, home_rule, line_kind, block_kind, more_figures, figure_opened, figures_closed, unmarked_if, FigureLine}
 use Rattle.elements.proofs.BlocksActs.{told, row_of}
 
 -- ── a line that opens a block: its row, and what it holds ──
@@ -177,14 +177,6 @@ module _ (k : Known) (layered : Bool) (range wires : ℕ) (d : Digits) (full : L
       let (v, q) = told (N.Begin b) a e in
       let w = act-begun k (table_of (home_table layered range wires)) d full f b.block b.row v q in
       omega (arith, leb-true (inner_of w.rule.holds) 4 (row-all (λ r. leb (inner_of r.holds) 4) w.row (home-inner layered range wires)), w.inner)
-
--- ── the records of a figure that is a block ──
-pub takes-most : (i : ℕ) → block_takes i ≤ 2
-takes-most i = go (eqb i 4)
-  where
-    go : (b : Bool) → cond b 2 1 ≤ 2
-    go true = omega arith
-    go false = omega arith
 
 -- ── the line ──
 module _ (n : Now) (range wires : ℕ) (at : Where) (rec₀ rec₁ : List ℤ) (m₀ i₀ : List Bool) where

@@ -3,14 +3,12 @@ use Prim.Native.Nat.{ℕ, ◌<◌, ◌≤◌}
 use mathlib.Core.Bool.{Bool, true, false, cond}
 use mathlib.Core.List.{List, [], ◌∷◌}
 use mathlib.Core.Path.{◌≡◌, refl, sym, ◌∙◌, ap, subst}
-use native.Mathlib.Omega.{arith}
 use lib.Dec.{leb, ltb}
-use lib.IntN.{ℤ, pos}
-use lib.ListN.{length, get_or, set}
+use lib.IntN.{ℤ}
+use lib.ListN.{length, set}
 use mir.Syntax.{w64}
-use mir.Val.{to_z, of_z, SFits}
-use mir.Facts.{to_z-of_z}
-use borrow.Author.Tests.{lt-ltb, le-ltb, eq-eqb, ne_eqb}
+use mir.Val.{to_z}
+use borrow.Author.Tests.{lt-ltb, le-ltb}
 use Rattle.rules.specs.declared.Digits.{Digits}
 use Rattle.rules.specs.Base.{all}
 use Rattle.rules.specs.Lines.{Form}
@@ -142,10 +140,3 @@ chain-long n y h e = ap (λ (z : Now). S.Go z) e ∙ sym (ap (λ (b : Bool). con
 
 pub chain-counted : (n : Now) (t : List ℤ) → n.points < 100000000000 → set t 5 (to_z w64 n.points) ≡ chain_closed n t
 chain-counted n t h = rw (pos-back n.points h)
-
--- ── its first point's type ──
-pub typed-first : (n : Now) (t : List ℤ) → SFits w64 (get_or t 36 (pos 0)) → n.points ≤ 0 → set t 4 (to_z w64 (of_z w64 (get_or t 36 (pos 0)))) ≡ chain_typed n t
-typed-first n t f h = ap (set t 4) (to_z-of_z f) ∙ sym (ap (λ (b : Bool). cond b (set t 4 (get_or t 36 (pos 0))) t) (eq-eqb n.points 0 (omega (arith, h))))
-
-pub typed-before : (n : Now) (t : List ℤ) → 0 < n.points → t ≡ chain_typed n t
-typed-before n t h = sym (ap (λ (b : Bool). cond b (set t 4 (get_or t 36 (pos 0))) t) (ne_eqb n.points 0 (λ e. omega (arith, e, h))))

@@ -11,25 +11,25 @@ use lib.Seq.{length-sets, get_or-set_other, take_all, drop-length}
 use mir.Syntax.{w64}
 use mir.Val.{to_z, of_z, SFits}
 use mir.Facts.{to_z-of_z}
-use borrow.Author.Tests.{le-leb, leb-true, lt-ltb, le-ltb, eq-eqb, ne_eqb, eqb-true}
+use borrow.Author.Tests.{leb-true, lt-ltb, le-ltb, eq-eqb, ne_eqb}
 use Rattle.rules.specs.declared.Class.{Class}
 use Rattle.rules.specs.declared.Digits.{Digits}
 use Rattle.rules.specs.Lines.{Form}
-use Rattle.rules.specs.RangeClass.{digits, digits_of, both, hides, knows_wires, most_depth}
+use Rattle.rules.specs.RangeClass.{digits, digits_of, both, hides, most_depth}
 use Rattle.rules.specs.Values.{Known, equal_z}
 use Rattle.rules.specs.Rows.{complete}
 use Rattle.rules.specs.RecordTable.{rule_at, mark_unread}
 use Rattle.rules.specs.Figures.{wire_table}
 use Rattle.rules.proofs.Chains.{clash}
 use Rattle.tables.specs.Tables.{table_of}
-use Rattle.leaves.proofs.Ints.{fits_pos, pos-back}
+use Rattle.leaves.proofs.Ints.{pos-back}
 use Rattle.account.specs.declared.Now.{Now}
 use Rattle.account.specs.declared.Where.{Where}
 use Rattle.account.specs.declared.Step.{Step}
 use Rattle.account.specs.declared.Step.TheVariants as S
 use Rattle.account.specs.declared.Skipped.{Skipped}
 use Rattle.account.specs.declared.Skipped.TheVariants as K
-use Rattle.account.specs.Account.{at_block, figure_done, head_at}
+use Rattle.account.specs.Account.{figure_done, head_at}
 use Rattle.account.specs.SkippedLines.{skipped_by}
 use Rattle.account.specs.PlacedLines.{Lent, hidden_at, with_inner}
 use Rattle.account.specs.WireLines.{wire_begun, begun_step, begun_put, both_lines, meets_former, join_holds, join_number, former_kept, element_put, wire_whole, wire_counted, states_marked, WireShut, ReadLine, text_act, TextInWire}
@@ -37,11 +37,6 @@ use Rattle.account.specs.WireLines.{open_skipped, marked_unread, SkippedLine, Wi
 use Rattle.account.proofs.PlacedLaws.{one-marked}
 
 -- ── how it begins ──
-pub begun-read : (c : Class) (n : Now) (b : Bool) → b ≡ knows_wires c → b ≡ true → n ≡ wire_begun c n
-begun-read c n b q e = sym (ap (λ (x : Bool). cond x n (at_block n 12 2)) (sym q ∙ e))
-
-pub begun-unread : (c : Class) (n m : Now) (b : Bool) → b ≡ knows_wires c → b ≡ false → m ≡ at_block n 12 2 → m ≡ wire_begun c n
-begun-unread c n m b q e h = h ∙ sym (ap (λ (x : Bool). cond x n (at_block n 12 2)) (sym q ∙ e))
 
 module _ (c : Class) (at : Where) (t : List ℤ) (did : Step) where
   abbrev Begun : Step → List ℤ → Type 0
@@ -68,9 +63,6 @@ module _ (c : Class) (at : Where) (t : List ℤ) (did : Step) where
   begins-stop k e = (sym (ap (begun_step c) e), sym (ap (λ (d : Step). begun_put at d t) e))
 
 -- ── numbers that are compared, by their bits ──
-equal-same : (a : ℤ) → equal_z a a ≡ true
-equal-same (pos n) = let h : leb n n ≡ true = le-leb n n (omega arith) in rw (h) refl
-equal-same (negsuc n) = let h : leb n n ≡ true = le-leb n n (omega arith) in rw (h) refl
 
 both_ways : (m n : ℕ) → (m ≡ n → ⊥) → (leb m n && leb n m) ≡ false
 both_ways m n h = go (leb m n) (leb n m) refl refl
@@ -90,47 +82,11 @@ module _ (a b : ℤ) where
   pub other_bits : (of_z w64 a ≡ of_z w64 b → ⊥) → equal_z a b ≡ false
   other_bits h = equal-apart a b (λ e. h (ap (of_z w64) e))
 
-  module _ (f : SFits w64 a) (g : SFits w64 b) where
-    pub same_bits : of_z w64 a ≡ of_z w64 b → equal_z a b ≡ true
-    same_bits e = ap (equal_z a) (sym (sym (to_z-of_z f) ∙ ap (to_z w64) e ∙ to_z-of_z g)) ∙ equal-same a
-
-    pub bits_equal : eqb (of_z w64 a) (of_z w64 b) ≡ equal_z a b
-    bits_equal = go (eqb (of_z w64 a) (of_z w64 b)) refl
-      where
-        go : (x : Bool) → eqb (of_z w64 a) (of_z w64 b) ≡ x → x ≡ equal_z a b
-        go true e = sym (same_bits (eqb-true (of_z w64 a) (of_z w64 b) e))
-        go false e = sym (other_bits (λ q. clash (eq-eqb (of_z w64 a) (of_z w64 b) q) e))
-
 -- ── the join ──
-module _ (t : List ℤ) (row : ℕ) where
-  pub lines-not : (of_z w64 (get_or t 94 (pos 0)) ≡ 1 → ⊥) → false ≡ both_lines row t
-  lines-not h = sym (ap (λ (b : Bool). b && eqb row 0) (other_bits (get_or t 94 (pos 0)) (pos 1) h))
-
-  pub lines-row : SFits w64 (get_or t 94 (pos 0)) → of_z w64 (get_or t 94 (pos 0)) ≡ 1 → eqb row 0 ≡ both_lines row t
-  lines-row f e = sym (ap (λ (b : Bool). b && eqb row 0) (same_bits (get_or t 94 (pos 0)) (pos 1) f (fits_pos 1 (omega arith)) e))
-
-module _ (t : List ℤ) where
-  pub meets-not : (of_z w64 (get_or t 36 (pos 0)) ≡ of_z w64 (get_or t 5 (pos 0)) → ⊥) → false ≡ meets_former t
-  meets-not h = sym (ap (λ (b : Bool). b && equal_z (get_or t 68 (pos 0)) (get_or t 6 (pos 0))) (other_bits (get_or t 36 (pos 0)) (get_or t 5 (pos 0)) h))
-
-  pub meets-by : SFits w64 (get_or t 36 (pos 0)) → SFits w64 (get_or t 5 (pos 0)) → SFits w64 (get_or t 68 (pos 0)) → SFits w64 (get_or t 6 (pos 0))
-      → of_z w64 (get_or t 36 (pos 0)) ≡ of_z w64 (get_or t 5 (pos 0)) → eqb (of_z w64 (get_or t 68 (pos 0))) (of_z w64 (get_or t 6 (pos 0))) ≡ meets_former t
-  meets-by f g h k e =
-      bits_equal (get_or t 68 (pos 0)) (get_or t 6 (pos 0)) h k
-      ∙ sym (ap (λ (b : Bool). b && equal_z (get_or t 68 (pos 0)) (get_or t 6 (pos 0))) (same_bits (get_or t 36 (pos 0)) (get_or t 5 (pos 0)) f g e))
 
 module _ (ends : Bool) (row : ℕ) (t : List ℤ) where
-  pub holds-free : ends ≡ false → true ≡ join_holds ends row t
-  holds-free e = sym (ap (λ (x : Bool). cond (x && both_lines row t) (meets_former t) true) e)
-
   tested : (b : Bool) → ends ≡ true → b ≡ both_lines row t → join_holds ends row t ≡ cond b (meets_former t) true
   tested b e q = ap (λ (x : Bool). cond (x && both_lines row t) (meets_former t) true) e ∙ ap (λ (x : Bool). cond x (meets_former t) true) (sym q)
-
-  pub holds-apart : (b : Bool) → ends ≡ true → b ≡ both_lines row t → b ≡ false → true ≡ join_holds ends row t
-  holds-apart b e q h = sym (tested b e q ∙ ap (λ (x : Bool). cond x (meets_former t) true) h)
-
-  pub holds-meets : (b m : Bool) → ends ≡ true → b ≡ both_lines row t → b ≡ true → m ≡ meets_former t → m ≡ join_holds ends row t
-  holds-meets b m e q h p = p ∙ sym (tested b e q ∙ ap (λ (x : Bool). cond x (meets_former t) true) h)
 
   -- its number
   abbrev between : Bool → ℕ
@@ -139,20 +95,8 @@ module _ (ends : Bool) (row : ℕ) (t : List ℤ) where
   numbered : ends ≡ true → join_number ends row t ≡ between (equal_z (get_or t 94 (pos 0)) (pos 0))
   numbered e = ap (λ (x : Bool). cond x (between (equal_z (get_or t 94 (pos 0)) (pos 0))) 0) e
 
-  pub number-free : ends ≡ false → ◌≡◌ {A = ℤ} (pos 0) (pos (join_number ends row t))
-  number-free e = sym (ap (λ (x : Bool). pos (cond x (between (equal_z (get_or t 94 (pos 0)) (pos 0))) 0)) e)
-
-  pub number-first : ends ≡ true → SFits w64 (get_or t 94 (pos 0)) → of_z w64 (get_or t 94 (pos 0)) ≡ 0 → ◌≡◌ {A = ℤ} (pos 0) (pos (join_number ends row t))
-  number-first e f q = sym (ap pos (numbered e ∙ ap between (same_bits (get_or t 94 (pos 0)) (pos 0) f (fits_pos 0 (omega arith)) q)))
-
   behind : ends ≡ true → (of_z w64 (get_or t 94 (pos 0)) ≡ 0 → ⊥) → (b : Bool) → b ≡ both_lines row t → pos (join_number ends row t) ≡ pos (cond b 1 2)
   behind e h b q = ap pos (numbered e ∙ ap between (other_bits (get_or t 94 (pos 0)) (pos 0) h) ∙ ap (λ (x : Bool). cond x 1 2) (sym q))
-
-  pub number-tested : ends ≡ true → (of_z w64 (get_or t 94 (pos 0)) ≡ 0 → ⊥) → (b : Bool) → b ≡ both_lines row t → b ≡ true → ◌≡◌ {A = ℤ} (pos 1) (pos (join_number ends row t))
-  number-tested e h b q y = sym (behind e h b q ∙ ap (λ (x : Bool). pos (cond x 1 2)) y)
-
-  pub number-untested : ends ≡ true → (of_z w64 (get_or t 94 (pos 0)) ≡ 0 → ⊥) → (b : Bool) → b ≡ both_lines row t → b ≡ false → ◌≡◌ {A = ℤ} (pos 2) (pos (join_number ends row t))
-  number-untested e h b q y = sym (behind e h b q ∙ ap (λ (x : Bool). pos (cond x 1 2)) y)
 
 -- ── an element's record ──
 pub former-kept : (j : ℕ) (t : List ℤ) → j ≤ 1 → SFits w64 (get_or t 7 (pos 0)) → SFits w64 (get_or (set t 36 (to_z w64 (of_z w64 (get_or t 7 (pos 0))))) 8 (pos 0))

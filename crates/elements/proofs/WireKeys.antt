@@ -5,11 +5,11 @@ use mathlib.Core.Bool.{Bool, true, false, cond, ◌&&◌}
 use mathlib.Core.List.{List, [], ◌∷◌, ◌++◌}
 use mathlib.Core.Path.{◌≡◌, refl, sym, ◌∙◌, ap, subst}
 use native.Mathlib.Omega.{arith}
-use lib.Dec.{eqb, leb}
+use lib.Dec.{eqb}
 use lib.IntN.{ℤ, pos}
 use lib.ListN.{length, get_or, set, take, drop, replicate, length-append, length-drop, take-append-drop}
 use lib.Seq.{get_or-append-add, get_or-drop, get_or-take, get_or-set_other, length-take-le, sets}
-use borrow.Author.Tests.{lt-ltb, le-ltb, eq-eqb, ne_eqb}
+use borrow.Author.Tests.{lt-ltb, le-ltb, ne_eqb}
 use Rattle.rules.specs.declared.Class.{Class}
 use Rattle.rules.specs.declared.Digits.{Digits}
 use Rattle.rules.specs.declared.Span.{Span}
@@ -49,7 +49,7 @@ use Rattle.account.specs.Points.{more_points}
 use Rattle.account.specs.SkippedLines.{skipped_by}
 use Rattle.account.specs.SerialNumbers.{content_at, in_use, SerialLine}
 use Rattle.account.specs.PlacedLines.{Lent, lent, lent_with, with_inner, OwnGiven, unknown_step, not_here}
-use Rattle.account.specs.WireLines.{count_at, front_read, own_read, join_holds, element_put, past_now, group_agrees, shelved, shelf_of, EntryRecords, FrontLine}
+use Rattle.account.specs.WireLines.{front_read, own_read, join_holds, element_put, past_now, group_agrees, shelved, shelf_of, EntryRecords, FrontLine}
 use Rattle.account.specs.WireLines.{own_in, OnceEntered, OnceLine, full_at, misplaced, UnknownInWire, RowInWire, FoundInWire, KeyInWire, ReadLine}
 use Rattle.account.specs.WireLines.{text_act, text_from, text_shelf, TextInWire, RowOfWire, CountGiven, ShelvesReady}
 use Rattle.account.proofs.Lent.{with-same}
@@ -332,17 +332,6 @@ module _ (n : Now) (j own : ℕ) (at : Span) where
       }
 
 -- ── which row it is ──
-pub full-direcs : (marks : List Bool) (t : List ℤ) (j n : ℕ) → j ≡ 2 → n ≡ count_at 38 t → leb 2 n ≡ full_at marks t j
-full-direcs marks t j n e h = ap (leb 2) h ∙ sym (ap (λ (b : Bool). cond b (leb 2 (count_at 38 t)) (get_or marks j false)) (eq-eqb j 2 e))
-
-pub full-other : (marks : List Bool) (t : List ℤ) (j : ℕ) → (j ≡ 2 → ⊥) → get_or marks j false ≡ full_at marks t j
-full-other marks t j h = sym (ap (λ (b : Bool). cond b (leb 2 (count_at 38 t)) (get_or marks j false)) (ne_eqb j 2 h))
-
-pub placed-elsewhere : (n : Now) (j : ℕ) → 2 ≤ j → false ≡ misplaced n j
-placed-elsewhere n j h = sym (ap (λ (b : Bool). b && eqb n.part 3) (le-ltb j 2 h))
-
-pub placed-element : (n : Now) (j : ℕ) → j < 2 → eqb n.part 3 ≡ misplaced n j
-placed-element n j h = sym (ap (λ (b : Bool). b && eqb n.part 3) (lt-ltb j 2 h))
 
 module _ (key : List ℕ) (row : Row) (same : found_for_line (find key (table_of 20)) ≡ found row.number (rule_of row)) where
   pub wire-row : (row.number < 10) × RowOfWire row
