@@ -1,20 +1,20 @@
 -- The numbers of the header kept apart are counts: what a cast makes of one.
 use Prim.Native.Nat.{ℕ, zero, suc}
-use mathlib.Core.Bool.{Bool, true, false, ◌&&◌}
+use mathlib.Core.Bool.{true}
 use mathlib.Core.List.{List, [], ◌∷◌}
-use mathlib.Core.Path.{◌≡◌, refl, sym, ◌∙◌, ap, subst}
+use mathlib.Core.Path.{◌≡◌, refl, sym, subst}
 use native.Mathlib.Omega.{arith}
-use lib.Dec.{T, eqb}
+use lib.Dec.{T}
 use lib.IntN.{ℤ, pos, negsuc, nat_abs}
 use lib.Signed.{non_neg}
 use lib.ListN.{get_or}
-use borrow.Author.Tests.{ltb-true, eq-eqb, ne_eqb}
+use borrow.Author.Tests.{ltb-true}
 use mir.Syntax.{w32, w64}
 use mir.Val.{Fits, SFits, to_z, of_z}
 use mir.Facts.{to_z-of_z}
 use Rattle.rules.specs.Base.{all}
 use Rattle.rules.proofs.Chains.{and_left, and_right, clash}
-use Rattle.account.specs.FileLines.{is_count, count_at, Header, dated_as}
+use Rattle.account.specs.FileLines.{is_count, Header}
 
 count_in : (h : List ℤ) (i : ℕ) → all is_count h ≡ true → is_count (get_or h i (pos 0)) ≡ true
 count_in [] i e = refl
@@ -42,16 +42,3 @@ module _ (h : List ℤ) (g : Header h) (i : ℕ) where
 
   pub header_cast : T (non_neg (to_z w64 (of_z w64 (get_or h i (pos 0))))) × Fits w32 (nat_abs (to_z w64 (of_z w64 (get_or h i (pos 0)))))
   header_cast = count_cast (get_or h i (pos 0)) header-count
-
-  pub header-back : nat_abs (to_z w64 (of_z w64 (get_or h i (pos 0)))) ≡ count_at h i
-  header-back = ap nat_abs (count-back (get_or h i (pos 0)) header-count)
-
-module _ (h : List ℤ) (g : Header h) (tally : List ℕ) where
-  pub dated-not : (nat_abs (to_z w64 (of_z w64 (get_or h 68 (pos 0)))) ≡ get_or tally 3 0 → ⊥) → false ≡ dated_as tally h
-  dated-not n = sym (rw (ne_eqb (count_at h 68) (get_or tally 3 0) (λ e. n (header-back h g 68 ∙ e))))
-
-  pub dated-so : nat_abs (to_z w64 (of_z w64 (get_or h 68 (pos 0)))) ≡ get_or tally 3 0
-      → eqb (nat_abs (to_z w64 (of_z w64 (get_or h 69 (pos 0))))) (get_or tally 4 0) ≡ dated_as tally h
-  dated-so e =
-      ap (λ (n : ℕ). eqb n (get_or tally 4 0)) (header-back h g 69)
-      ∙ sym (ap (λ (t : Bool). t && eqb (count_at h 69) (get_or tally 4 0)) (eq-eqb (count_at h 68) (get_or tally 3 0) (sym (header-back h g 68) ∙ e)))

@@ -1,5 +1,5 @@
 -- FILE_FORMAT's records: they are complete where it was open, and their number is the one that was kept.
-use Prim.Native.Nat.{ℕ, ◌+◌, ◌-◌}
+use Prim.Native.Nat.{ℕ}
 use mathlib.Core.Bool.{Bool, true, false, cond, ◌&&◌}
 use mathlib.Core.Path.{◌≡◌, refl, sym, ◌∙◌, ap}
 use borrow.Author.Tests.{eqb-true}
@@ -8,7 +8,7 @@ use Rattle.rules.proofs.Chains.{clash}
 use Rattle.account.specs.declared.Now.{Now}
 use Rattle.account.specs.declared.Complete.{Complete}
 use Rattle.account.specs.declared.Complete.TheVariants as C
-use Rattle.account.specs.Putting.{line_place, line_completed, close_completed, completed, close_number, number_for}
+use Rattle.account.specs.Putting.{line_place, line_completed, close_completed, completed}
 
 abbrev is_header : Complete → Bool
 is_header C.Nothing = false
@@ -51,8 +51,3 @@ module _ (was is : Now) where
       is-file : (b : Bool) → is_header (cond b C.Header C.Nothing) ≡ true → b ≡ true
       is-file true h = refl
       is-file false h = clash h refl
-
-  pub header-number : (own : ℕ) → completed was is ≡ C.Header → number_for was is own ≡ own
-  header-number own q =
-      ap (λ (b : Bool). cond b was.records (close_number was is own)) (other_block q)
-      ∙ ap (λ (i : ℕ). cond (eqb i 9) (is.records - (was.points + 1)) (cond (eqb i 12) (is.records - (was.points + 2)) (cond (ltb 9 i) (is.records - 1) own))) (header-block q)

@@ -2,7 +2,7 @@
 use Rattle.std.specs.Prelude.{Option, Some, None}
 use Prim.Native.Nat.{ℕ, ◌+◌}
 use mathlib.Core.Bool.{false}
-use mathlib.Core.Path.{◌≡◌, refl, sym, ap, subst}
+use mathlib.Core.Path.{◌≡◌, refl, ap, subst}
 use mathlib.Core.List.{List, ◌∷◌, ◌++◌}
 use native.Mathlib.Omega.{arith}
 use lib.ListN.{length}
@@ -48,10 +48,3 @@ next-seen s body v p ls a n = go (look_in v.number (p.line + 1) v.at p.at body) 
 pub todo-cons : (v : Volume) (next : List ℕ) (p : Pos) (l : List ℕ) (ls : List (List ℕ)) (more : List Line)
     → todo v next p (l ∷ ls) more ≡ line_at v next p l ls ∷ todo v next (behind p l) ls more
 todo-cons v next p l ls more = ap (λ (n : ℕ). line_at v next p l ls ∷ (numbered v.number next n (p.at + length l + 2) ls ++ more)) (omega arith)
-
-module _ (body : List ℕ) (v : Volume) (p : Pos) where
-  pub seen_end : look_in v.number (p.line + 1) v.at p.at body ≡ None → seen_or p.at None ≡ seen_from body v p
-  seen_end e = ap (seen_or p.at) (sym e)
-
-  pub seen-line : (f : Seen) → look_in v.number (p.line + 1) v.at p.at body ≡ Some f → f ≡ seen_from body v p
-  seen-line f e = ap (seen_or p.at) (sym e)
