@@ -35,3 +35,8 @@ returns-in_default c =
     let a = c.args in
     let e : kind_of a.row ≡ values_of a.row = search rules in
     puts-values a.row e (known_of a.known.now) a.at a.c.now a.rec.now _ a.p _ c.values.ensures
+
+pub returns-in-10 : goal.returns-in-10
+returns-in-10 c =
+    let a = c.args in
+    rw c.in-10.is (one-put (read_part (known_of a.known.now) (part_of 11) a.c.now) _ a.rec.now _ a.p _ c.single-in-10.ensures c.put_value-in-10.ensures.0 c.put_value-in-10.ensures.1)
