@@ -116,6 +116,7 @@ pub fn read(s: &[u8], class: u64, wire: u64, t: &mut [i64]) -> Result<u32, Refus
             line: 0,
         });
     };
+    // no `?`: the table is cleared first
     match read_set(s, c, limit, t) {
         Ok(n) => Ok(n),
         Err(f) => {

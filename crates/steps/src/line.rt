@@ -62,7 +62,8 @@ fn name_kept(did: Step, tally: &mut [u32], symbols: &mut [u32], rec: &[i64]) -> 
     did
 }
 
-// What one line does, by the block that is open: one function for each block, which lends of the scratch what its lines write.
+// What one line does, by the block that is open: one function for each block, which lends of the scratch what its lines write. Each is lent what
+// its block uses: no struct of all that is lent, or each would have to promise that the other parts stay.
 fn at_top(
     s: &[u8],
     x: LineAt,

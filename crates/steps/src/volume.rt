@@ -111,6 +111,7 @@ pub fn read_volume(
     let mut pos = Pos { at: v.at, line: 0 };
     let first = v.number == 1;
     let last_volume = following.len() == 0;
+    // No `for`: each line, or the end of a skipped block, says where the next one begins.
     loop {
         let seen = next_line(body, v, pos);
         if seen.next == pos.at {
