@@ -25,7 +25,7 @@ use groundwork::table::head;
 use leaves::bytes::is_layer_id;
 use leaves::numbers::fixed;
 use leaves::texts::{fits, text_rule};
-use rules::{KIND_LAYER, LineForm, Span};
+use rules::{KIND_LAYER, LineForm, Rule, Span};
 use tables::TABLE_DRAWING;
 
 // A line in DRAWING_FORMAT.
@@ -81,14 +81,14 @@ fn layer_name(s: &[u8], rest: Rest) -> Result<Span, u8>
             let bytes = part(s, c);
             let rule = text_rule(LAYER_TEXT);
             if !fits(bytes, rule.most, rule.set) {
-                return Err(11);
+                return Err(Rule::Value as u8);
             }
             Ok(Span {
                 at: c.at,
                 len: bytes.len() as u32,
             })
         }
-        Shape::Opener | Shape::Opening(_) | Shape::Formless => Err(5),
+        Shape::Opener | Shape::Opening(_) | Shape::Formless => Err(Rule::Form as u8),
     }
 }
 
@@ -167,7 +167,7 @@ fn layer_line(
     ensures { LayerLine s.now here at (bytes_at s.now key) tally.old tally.new layers.old layers.new rec.old rec.new (layer_got s.now tally.old layers.old (bytes_at s.now key) (rest_in s.now rest)) result }
 {
     if !is_layer_id(part(s, key)) {
-        return Step::Stop(6);
+        return Step::Stop(Rule::Key as u8);
     }
     let name = match layer_name(s, rest) {
         Ok(name) => name,
@@ -175,10 +175,10 @@ fn layer_line(
     };
     let count = tally[TALLY_LAYERS] as usize;
     if MOST_LAYERS <= count {
-        return Step::Stop(11);
+        return Step::Stop(Rule::Value as u8);
     }
     if index_of(s, &layers[..count], part(s, key)).is_some() {
-        return Step::Stop(14);
+        return Step::Stop(Rule::Layer as u8);
     }
     Step::Go(take_layer(s, tally, layers, here, key, name, at, rec))
 }
@@ -199,7 +199,7 @@ pub fn on_layer_names(
     match form {
         LineForm::Ignored => Step::Go(here),
         LineForm::Close => Step::Go(at_block(here, BLOCK_DRAWING, 0)),
-        LineForm::Eof => Step::Stop(9),
+        LineForm::Eof => Step::Stop(Rule::Order as u8),
         LineForm::Opens(o) => layer_line(s, tally, layers, here, o.key, Rest::Brace, at, rec),
         LineForm::Equals(q) => {
             layer_line(s, tally, layers, here, q.key, Rest::Equals(q.rest), at, rec)

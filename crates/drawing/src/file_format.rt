@@ -25,7 +25,7 @@ use entries::acts::act;
 use entries::names::part;
 use groundwork::blocks::{at_block, no_digits};
 use leaves::bytes::capital;
-use rules::{LineForm, Span};
+use rules::{LineForm, Rule, Span};
 use tables::{TABLE_FILE, TABLE_LATER};
 
 // FILE_FORMAT's inner blocks, beside `elec`; the last is `sym`.
@@ -180,14 +180,14 @@ fn close_file(
         len: header[HEADER_NEXT_FILE_LENGTH] as u32,
     };
     if !names(part(s, name), following) {
-        return Step::Stop(16);
+        return Step::Stop(Rule::Chain as u8);
     }
     if first {
         first_tally(header, tally);
         return Step::Go(at_block(here, BLOCK_TOP, TURN_DRAWING));
     }
     if !dated(header, tally) {
-        return Step::Stop(16);
+        return Step::Stop(Rule::Chain as u8);
     }
     later_tally(header, tally);
     Step::Go(at_block(here, BLOCK_TOP, TURN_ELEMENT))

@@ -19,7 +19,7 @@ use entries::acts::act;
 use entries::names::{index_of, part};
 use groundwork::blocks::{at_block, digits_of, unmark};
 use groundwork::table::head;
-use rules::{KIND_SYMBOL, LineForm, Span};
+use rules::{KIND_SYMBOL, LineForm, Rule, Span};
 use tables::{TABLE_DEFINES, TABLE_SYMBOL};
 
 // The part of SYMBOL_DEFINE behind `NON=`.
@@ -33,7 +33,7 @@ fn non_read(here: Now, count: usize) -> Step
     ensures { result ≡ non_read here count }
 {
     if count != 0 {
-        return Step::Stop(6);
+        return Step::Stop(Rule::Key as u8);
     }
     Step::Go(at_block(here, BLOCK_DEFINES, AFTER_NON))
 }
@@ -59,7 +59,7 @@ fn open_symbol(here: Now, count: usize, at: Where, marks: &mut [bool], rec: &mut
     ensures { (result ≡ open_symbol here count) × OpenedOr (non_in here) (SymbolBegun count at marks.old marks.new rec.old rec.new) }
 {
     if here.part != 0 {
-        return Step::Stop(6);
+        return Step::Stop(Rule::Key as u8);
     }
     head(rec, 0, KIND_SYMBOL, count as u32, at.volume, at.line);
     unmark(marks);
@@ -78,7 +78,7 @@ fn close_defines(here: Now, count: usize) -> Step
     ensures { result ≡ close_defines here count }
 {
     if !defined(here, count) {
-        return Step::Stop(8);
+        return Step::Stop(Rule::Missing as u8);
     }
     Step::Go(at_block(here, BLOCK_TOP, TURN_ELEMENT))
 }
@@ -153,7 +153,7 @@ fn symbol_entry(
 {
     marks[row as usize] = true;
     if row == ROW_NAME && !is_new(s, symbols, name_in(rec)) {
-        return Step::Stop(15);
+        return Step::Stop(Rule::Serial as u8);
     }
     Step::Go(here)
 }

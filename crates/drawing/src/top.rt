@@ -16,7 +16,7 @@ use entries::acts::act;
 use groundwork::blocks::{at_block, no_digits, unmark};
 use groundwork::serials::all_marked;
 use groundwork::table::{clear, head};
-use rules::{KIND_DRAWING, KIND_HEADER, KIND_VOLUME, LineForm, WIDTH};
+use rules::{KIND_DRAWING, KIND_HEADER, KIND_VOLUME, LineForm, Rule, WIDTH};
 use tables::TABLE_TOP;
 
 // EOF: 9 where it is misplaced, then 14 for a layer that is not used, then 17 for all_ele.
@@ -25,14 +25,14 @@ fn at_eof(here: Now, at: Where, tally: &[u32], used_all: &[bool]) -> Step
     ensures { result ≡ step_of (eof_now here at tally.now used_all.now) }
 {
     if here.part != TURN_EOF || !at.ends {
-        return Step::Stop(9);
+        return Step::Stop(Rule::Order as u8);
     }
     let count = tally[TALLY_LAYERS] as usize;
     if !all_marked(&used_all[..count]) {
-        return Step::Stop(14);
+        return Step::Stop(Rule::Layer as u8);
     }
     if tally[TALLY_ALL] != tally[TALLY_TOTAL] {
-        return Step::Stop(17);
+        return Step::Stop(Rule::Count as u8);
     }
     Step::Go(at_block(here, BLOCK_ENDED, 0))
 }
@@ -101,7 +101,7 @@ fn open_block(
     ensures { Answered (block_now first here block) ((top_lent marks.new used.new header.new rec.new) ≡ opened_lent first at block (top_lent marks.old used.old header.old rec.old)) result }
 {
     if block != here.part {
-        return Step::Stop(9);
+        return Step::Stop(Rule::Order as u8);
     }
     Step::Go(match block {
         TURN_FILE => open_file(here, first, at, marks, header),
@@ -135,7 +135,7 @@ pub fn on_top(
 {
     match form {
         LineForm::Ignored => Step::Go(here),
-        LineForm::Close => Step::Stop(9),
+        LineForm::Close => Step::Stop(Rule::Order as u8),
         LineForm::Eof => at_eof(here, at, tally, used_all),
         LineForm::Opens(_) | LineForm::Equals(_) => top_key(
             s, symbols, layers, first, here, form, at, marks, used, header, rec,
@@ -175,9 +175,9 @@ fn top_key(
     );
     match next {
         Next::Stay => Step::Go(here),
-        Next::Entry(_) => Step::Stop(5),
+        Next::Entry(_) => Step::Stop(Rule::Form as u8),
         Next::Begin(inner) => open_block(here, first, at, inner.row, marks, used, header, rec),
-        Next::Shut => Step::Stop(9),
+        Next::Shut => Step::Stop(Rule::Order as u8),
         Next::Refuse(n) => Step::Stop(n),
     }
 }

@@ -15,7 +15,7 @@ use account::{
 use entries::Next;
 use entries::acts::act;
 use groundwork::blocks::{at_block, no_digits};
-use rules::LineForm;
+use rules::{LineForm, Rule};
 use tables::TABLE_ELEMENT;
 
 // "14: layer used twice"
@@ -25,7 +25,7 @@ fn open_layer(was: Now, layer: u32, used: &mut [bool], used_all: &mut [bool]) ->
 {
     let i = layer as usize;
     if used[i] {
-        return Step::Stop(14);
+        return Step::Stop(Rule::Layer as u8);
     }
     used[i] = true;
     used_all[i] = true;
@@ -46,7 +46,7 @@ fn close_element(was: Now, tally: &mut [u32]) -> Step
     ensures { ElementCloses was tally.old tally.new result }
 {
     if tally[TALLY_HERE] != tally[TALLY_ELEMENTS_HERE] {
-        return Step::Stop(17);
+        return Step::Stop(Rule::Count as u8);
     }
     tally[TALLY_TOTAL] += tally[TALLY_ELEMENTS_HERE];
     Step::Go(at_block(was, BLOCK_TOP, TURN_EOF))
@@ -81,7 +81,7 @@ pub fn on_elements(
     );
     match next {
         Next::Stay => Step::Go(was),
-        Next::Entry(_) => Step::Stop(5),
+        Next::Entry(_) => Step::Stop(Rule::Form as u8),
         Next::Begin(_) => open_layer(was, layer[0] as u32, used, used_all),
         Next::Shut => close_element(was, tally),
         Next::Refuse(n) => Step::Stop(n),

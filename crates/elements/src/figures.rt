@@ -16,7 +16,7 @@ use entries::Next;
 use entries::acts::act;
 use groundwork::blocks::{at_block, digits_of, unmark};
 use groundwork::table::head;
-use rules::{IN_SYMBOL, KIND_LINE, KIND_WIRE, LineForm};
+use rules::{IN_SYMBOL, KIND_LINE, KIND_WIRE, LineForm, Rule};
 use tables::{
     TABLE_FIGURES, TABLE_LAYER, TABLE_SINGLE_LAYER, TABLE_SINGLE_WIRED_LAYER, TABLE_WIRED_LAYER,
 };
@@ -123,7 +123,7 @@ fn close_figures(now: Now) -> Step
         return Step::Go(at_block(now, BLOCK_ELEMENTS, 0));
     }
     if now.figures == 0 {
-        return Step::Stop(8);
+        return Step::Stop(Rule::Missing as u8);
     }
     Step::Go(at_block(now, BLOCK_SYMBOL, 0))
 }

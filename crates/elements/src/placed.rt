@@ -28,7 +28,7 @@ use entries::{Next, Rest, SORT_FORMLESS};
 use groundwork::blocks::{at_block, digits_of, figure_done, no_digits, unmark};
 use groundwork::classes::{both, exceeds, hides};
 use groundwork::serials::{content_at, keep_own};
-use rules::{Digits, LineForm, Span};
+use rules::{Digits, LineForm, Rule, Span};
 use tables::lookup::row_of;
 use tables::{TABLE_PLACED, TABLE_PLACED_TEXT};
 
@@ -51,9 +51,9 @@ pub(crate) fn not_here(s: &[u8], rest: Rest) -> Step
     ensures { result ≡ not_here (rest_in s.now rest) }
 {
     if sort_of(shape_for(s, false, rest)) == SORT_FORMLESS {
-        return Step::Stop(5);
+        return Step::Stop(Rule::Form as u8);
     }
-    Step::Stop(6)
+    Step::Stop(Rule::Key as u8)
 }
 
 // "skipped when a digit of E_sym exceeds the class's, and refused otherwise", and so of E_wire and the wire part.
@@ -71,7 +71,7 @@ pub(crate) fn on_unknown(
         return match skip_line(s, form) {
             Skipped::Passes => Step::Go(here),
             Skipped::Deeper => Step::Skip(here),
-            Skipped::Shut => Step::Stop(9),
+            Skipped::Shut => Step::Stop(Rule::Order as u8),
             Skipped::Refuse(n) => Step::Stop(n),
         };
     }
@@ -140,7 +140,7 @@ fn placed_done(
             unmark(inner);
             Step::Go(at_block(here, BLOCK_PLACED, INNER_PLACED_TEXT))
         }
-        Next::Shut => Step::Stop(8),
+        Next::Shut => Step::Stop(Rule::Missing as u8),
         Next::Refuse(k) => Step::Stop(k),
     }
 }
@@ -218,7 +218,7 @@ fn on_placed_text(
             inner[row as usize] = true;
             Step::Go(here)
         }
-        Next::Begin(_) => Step::Stop(5),
+        Next::Begin(_) => Step::Stop(Rule::Form as u8),
         Next::Shut => Step::Go(at_block(here, BLOCK_PLACED, INNER_NONE)),
         Next::Refuse(k) => Step::Stop(k),
     }
@@ -230,7 +230,7 @@ fn close_placed(class: Digits, range: Digits, here: Now, marks: &[bool], rec: &m
     ensures { CloseLine class range here marks.now rec.old rec.new result }
 {
     if !complete(TABLE_PLACED, both(class, range), &marks[..ROWS_PLACED]) {
-        return Step::Stop(8);
+        return Step::Stop(Rule::Missing as u8);
     }
     mark_unread(class, range, rec);
     Step::Go(figure_done(here))
@@ -263,7 +263,7 @@ fn on_placed_own(
             return close_placed(class, range, here, marks, rec);
         }
         LineForm::Eof => {
-            return Step::Stop(9);
+            return Step::Stop(Rule::Order as u8);
         }
         LineForm::Opens(_) => {}
         LineForm::Equals(_) => {}

@@ -11,7 +11,7 @@ use entries::Next;
 use entries::acts::act;
 use groundwork::blocks::{at_block, figure_done, no_digits};
 use groundwork::table::head;
-use rules::{IN_SYMBOL, KIND_HIDDEN, KIND_POINT, LineForm, WIDTH};
+use rules::{IN_SYMBOL, KIND_HIDDEN, KIND_POINT, LineForm, Rule, WIDTH};
 use tables::{TABLE_LAYER_POINTS, TABLE_SYMBOL_POINTS};
 
 // "plus 20 inside a symbol"
@@ -105,7 +105,7 @@ fn close_chain(here: Now, t: &mut [i64]) -> Step
     ensures { (result ≡ chain_end here) × (ltb here.points least_points ≡ false → t.new ≡ chain_closed here t.old) }
 {
     if here.points < 3 {
-        return Step::Stop(8);
+        return Step::Stop(Rule::Missing as u8);
     }
     t[PLACE_COUNT] = i64::from(here.points);
     Step::Go(figure_done(here))
@@ -141,7 +141,7 @@ pub fn on_chain(
             type_chain(here, t);
             Step::Go(more_points(here))
         }
-        Next::Begin(_) => Step::Stop(5),
+        Next::Begin(_) => Step::Stop(Rule::Form as u8),
         Next::Shut => close_chain(here, t),
         Next::Refuse(n) => Step::Stop(n),
     }
@@ -174,7 +174,7 @@ pub fn on_hide(
     match next {
         Next::Stay => Step::Go(here),
         Next::Entry(_) => Step::Go(more_points(here)),
-        Next::Begin(_) => Step::Stop(5),
+        Next::Begin(_) => Step::Stop(Rule::Form as u8),
         Next::Shut => Step::Go(at_block(here, BLOCK_SYMBOL, 0)),
         Next::Refuse(n) => Step::Stop(n),
     }

@@ -9,7 +9,7 @@ use account::{Pos, Skipped, Volume};
 use entries::names::part;
 use groundwork::walk::next_line;
 use leaves::bytes::spells;
-use rules::{Equation, LineForm, Refusal};
+use rules::{Equation, LineForm, Refusal, Rule};
 use tables::keys::CHARACTER;
 
 // Content that ends in `:{`.
@@ -28,7 +28,7 @@ fn skip_content(c: &[u8]) -> Skipped
         return Skipped::Passes;
     }
     if c.len() == 2 {
-        return Skipped::Refuse(5);
+        return Skipped::Refuse(Rule::Form as u8);
     }
     Skipped::Deeper
 }
@@ -50,7 +50,7 @@ pub(crate) fn skip_line(s: &[u8], form: LineForm) -> Skipped
     match form {
         LineForm::Ignored => Skipped::Passes,
         LineForm::Close => Skipped::Shut,
-        LineForm::Eof => Skipped::Refuse(9),
+        LineForm::Eof => Skipped::Refuse(Rule::Order as u8),
         LineForm::Opens(_) => Skipped::Deeper,
         LineForm::Equals(q) => skip_equation(s, q),
         LineForm::Refused(r) => Skipped::Refuse(r.number),
@@ -62,8 +62,8 @@ fn early_skip(did: Skipped) -> u8
     ensures { result ≡ early_skip did }
 {
     match did {
-        Skipped::Passes | Skipped::Deeper | Skipped::Shut => 9,
-        Skipped::Refuse(n) => n.min(9),
+        Skipped::Passes | Skipped::Deeper | Skipped::Shut => Rule::Order as u8,
+        Skipped::Refuse(n) => n.min(Rule::Order as u8),
     }
 }
 
@@ -103,7 +103,7 @@ pub fn skip_block(s: &[u8], body: &[u8], v: Volume, p: Pos, left: u8) -> Result<
             Skipped::Deeper => {
                 if left == 1 {
                     return Err(Refusal {
-                        number: 18,
+                        number: Rule::Nesting as u8,
                         volume: v.number,
                         line,
                     });

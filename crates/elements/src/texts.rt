@@ -12,7 +12,7 @@ use account::{Now, Step};
 use entries::Next;
 use entries::acts::act;
 use groundwork::blocks::{figure_done, no_digits};
-use rules::LineForm;
+use rules::{LineForm, Rule};
 use tables::{TABLE_LAYER_TEXT, TABLE_SYMBOL_TEXT};
 
 // The table of a text's rows, in a layer or in a symbol.
@@ -56,7 +56,7 @@ pub fn on_text(
             marks[row as usize] = true;
             Step::Go(here)
         }
-        Next::Begin(_) => Step::Stop(5),
+        Next::Begin(_) => Step::Stop(Rule::Form as u8),
         Next::Shut => Step::Go(figure_done(here)),
         Next::Refuse(n) => Step::Stop(n),
     }

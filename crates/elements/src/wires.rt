@@ -40,7 +40,7 @@ use groundwork::blocks::{at_block, digits_of, figure_done, no_digits, unmark};
 use groundwork::classes::both;
 use groundwork::serials::{content_at, keep_own};
 use groundwork::table::head;
-use rules::{Class, Digits, KIND_EDGE, KIND_WIRE_MORE, LineForm, Span, WIDTH};
+use rules::{Class, Digits, KIND_EDGE, KIND_WIRE_MORE, LineForm, Rule, Span, WIDTH};
 use tables::lookup::row_of;
 use tables::{Row, TABLE_LAYER_TEXT, TABLE_WIRE};
 
@@ -212,7 +212,7 @@ fn element_entered(ends: bool, here: Now, at: Where, row: u8, t: &mut [i64]) -> 
     ensures { (result ≡ cond (join_holds ends row t.old) (S.Go (more_points here)) (S.Stop 11)) × (join_holds ends row t.old ≡ true → t.new ≡ element_put ends here at row t.old) }
 {
     if !join_holds(ends, row, t) {
-        return Step::Stop(11);
+        return Step::Stop(Rule::Value as u8);
     }
     put_element(ends, here, at, row, t);
     Step::Go(more_points(here))
@@ -223,7 +223,7 @@ fn group_entered(here: Now, row: u8, t: &mut [i64]) -> Step
     ensures { (result ≡ cond (group_agrees row t.old) (S.Go (past_now here)) (S.Stop 11)) × (group_agrees row t.old ≡ true → t.new ≡ shelved 0 (shelf_of row) t.old) }
 {
     if !group_agrees(row, t) {
-        return Step::Stop(11);
+        return Step::Stop(Rule::Value as u8);
     }
     shelve_group(row, t);
     Step::Go(past(here))
@@ -264,8 +264,8 @@ fn front_row(
             }
             group_entered(here, j, t)
         }
-        Next::Begin(_) => Step::Stop(5),
-        Next::Shut => Step::Stop(8),
+        Next::Begin(_) => Step::Stop(Rule::Form as u8),
+        Next::Shut => Step::Stop(Rule::Missing as u8),
         Next::Refuse(n) => Step::Stop(n),
     }
 }
@@ -327,7 +327,7 @@ fn own_row(
             unmark(inner);
             Step::Go(at_block(here, BLOCK_WIRE, WIRE_TEXT))
         }
-        Next::Shut => Step::Stop(8),
+        Next::Shut => Step::Stop(Rule::Missing as u8),
         Next::Refuse(n) => Step::Stop(n),
     }
 }
@@ -426,7 +426,7 @@ fn close_wire(wires: Digits, range: u32, here: Now, marks: &[bool], t: &mut [i64
 {
     let d = digits_of(range);
     if !complete(TABLE_WIRE, both(wires, d), &marks[..ROWS_WIRE]) {
-        return Step::Stop(8);
+        return Step::Stop(Rule::Missing as u8);
     }
     count_wire(range, here, t);
     mark_states(wires, d, &mut t[WIDTH..SCRATCH_LENGTH]);
@@ -458,7 +458,7 @@ fn read_line(
             return close_wire(x.class.wires, tally[TALLY_WIRE_RANGE], here, marks, t);
         }
         LineForm::Eof => {
-            return Step::Stop(9);
+            return Step::Stop(Rule::Order as u8);
         }
         LineForm::Opens(_) => {}
         LineForm::Equals(_) => {}
@@ -499,7 +499,7 @@ fn text_line(
             inner[row as usize] = true;
             Step::Go(here)
         }
-        Next::Begin(_) => Step::Stop(5),
+        Next::Begin(_) => Step::Stop(Rule::Form as u8),
         Next::Shut => {
             shelve_text(t);
             Step::Go(past(here))
@@ -537,7 +537,7 @@ fn skipped_line(s: &[u8], range: u32, here: Now, form: LineForm, t: &mut [i64]) 
         Skipped::Passes => Step::Go(here),
         Skipped::Deeper => {
             if MOST_DEPTH <= here.points {
-                return Step::Stop(18);
+                return Step::Stop(Rule::Nesting as u8);
             }
             Step::Go(open_skipped(here, here.points + 1))
         }

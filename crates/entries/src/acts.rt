@@ -14,7 +14,7 @@ use crate::required::required;
 use crate::row_lines::{reaches, row_line};
 use crate::shapes::{key_of, rest_of, shape_for};
 use crate::{Known, Next, Rest, Shape};
-use rules::{Digits, LineForm, Span};
+use rules::{Digits, LineForm, Rule, Span};
 use tables::lookup::row_of;
 
 // A row that is asked for from these digits on must be there in a file of the range d.
@@ -45,7 +45,7 @@ fn close(table: u8, d: Digits, full: &[bool]) -> Next
     if complete(table, d, full) {
         Next::Shut
     } else {
-        Next::Refuse(8)
+        Next::Refuse(Rule::Missing as u8)
     }
 }
 
@@ -60,8 +60,8 @@ fn unknown(s: &[u8], rest: Rest) -> Next
     ensures { result ≡ next_of (act_unknown (rest_in s.now rest)) }
 {
     match shape_for(s, false, rest) {
-        Shape::Formless => Next::Refuse(5),
-        _ => Next::Refuse(6),
+        Shape::Formless => Next::Refuse(Rule::Form as u8),
+        _ => Next::Refuse(Rule::Key as u8),
     }
 }
 
@@ -111,7 +111,7 @@ pub fn act(
     match form {
         LineForm::Ignored => Next::Stay,
         LineForm::Close => close(table, d, full),
-        LineForm::Eof => Next::Refuse(9),
+        LineForm::Eof => Next::Refuse(Rule::Order as u8),
         LineForm::Refused(r) => Next::Refuse(r.number),
         LineForm::Opens(_) | LineForm::Equals(_) => act_key(
             table,

@@ -17,6 +17,7 @@ use leaves::bytes::{all_in, find};
 use leaves::numbers::serial;
 use leaves::sheets::{ratio, sheet};
 use leaves::texts::fits;
+use rules::Rule;
 use tables::{
     HOLDS_BLOCK, HOLDS_EITHER, HOLDS_HEADED, HOLDS_NOTHING, HOLDS_RATIO, HOLDS_SERIALS,
     HOLDS_SHEET, HOLDS_TEXT, HOLDS_VOLUME_NAME, HOLDS_WIRE_SERIAL, HOLDS_WORD, PART_RANGE_0_1, Row,
@@ -37,7 +38,7 @@ fn put_text(keeps: bool, at: u32, c: &[u8], p: usize, rec: &mut [i64]) -> Result
     ensures { Puts (unless keeps 11 (got (chars at c.now))) (λ v. sets rec.old p (numbers v)) rec.new result }
 {
     if !keeps {
-        return Err(11);
+        return Err(Rule::Value as u8);
     }
     put_two(at as u64, c.len() as u64, p, rec);
     Ok(())
@@ -47,7 +48,7 @@ fn put_sheet(c: &[u8], p: usize, rec: &mut [i64]) -> Result<(), u8>
     requires { p + 2 ≤ length rec.old }
     ensures { Puts (read_kind (known_in [] [] []) sheet 0 c.now) (λ v. sets rec.old p (numbers v)) rec.new result }
 {
-    let z = sheet(c).ok_or(11)?;
+    let z = sheet(c).ok_or(Rule::Value as u8)?;
     put_two(z.multiplier as u64, z.number as u64, p, rec);
     Ok(())
 }
@@ -78,11 +79,11 @@ fn put_serials(c: &[u8], p: usize, rec: &mut [i64]) -> Result<(), u8>
     requires { (length c.now ≤ 61440) × (p + 2 ≤ length rec.old) }
     ensures { Puts (read_kind (known_in [] [] []) serials 0 c.now) (λ v. sets rec.old p (numbers v)) rec.new result }
 {
-    let n = serial_count(c).ok_or(10)?;
+    let n = serial_count(c).ok_or(Rule::Written as u8)?;
     if 101 < n {
-        return Err(11);
+        return Err(Rule::Value as u8);
     }
-    let own = serial(&c[..find(c, b',')]).ok_or(10)?;
+    let own = serial(&c[..find(c, b',')]).ok_or(Rule::Written as u8)?;
     put_two(own, n - 1, p, rec);
     Ok(())
 }
@@ -105,7 +106,7 @@ pub(crate) fn read_kind(
         HOLDS_SHEET => put_sheet(c, p, rec),
         HOLDS_RATIO => put_ratio(c, p, rec),
         HOLDS_SERIALS => put_serials(c, p, rec),
-        HOLDS_NOTHING | HOLDS_BLOCK => Err(5),
+        HOLDS_NOTHING | HOLDS_BLOCK => Err(Rule::Form as u8),
         HOLDS_HEADED => put_value(single(row.parts, known, c), p, rec),
         HOLDS_EITHER => put_value(single(PART_RANGE_0_1, known, c), p, rec),
         HOLDS_WIRE_SERIAL => put_wire_serial(c, p, rec),

@@ -14,6 +14,7 @@ use leaves::Decimal;
 use leaves::bytes::{find, is_layer_id, within};
 use leaves::numbers::{clock, count, day, decimal, fixed};
 use leaves::pieces::decimal_piece;
+use rules::Rule;
 use tables::{
     PART_ABOVE_ZERO, PART_ANY_SIGN, PART_CLOCK, PART_COUNT, PART_DAY, PART_DIGIT, PART_FLAG,
     PART_HALF_TURN, PART_LAYER_ID, PART_NO_ANGLE, PART_NOT_NEGATIVE, PART_POSITION, PART_RANGE_0,
@@ -38,7 +39,7 @@ fn kept<T: Copy, F: FnOnce(T) -> bool>(read: Option<T>, test: F, otherwise: u8) 
     requires { ForSome read (F.pre test) }
     ensures { MatchOption read (result ≡ Err 10) (λ x. (b : Bool) × F.post test x b × (result ≡ cond b (Ok x) (Err otherwise))) }
 {
-    let x = read.ok_or(10)?;
+    let x = read.ok_or(Rule::Written as u8)?;
     if test(x) { Ok(x) } else { Err(otherwise) }
 }
 
@@ -54,7 +55,11 @@ fn limited(n: Option<u64>, lo: u64, hi: u64, otherwise: u8) -> Result<i64, u8>
 fn served(n: Option<u64>) -> Result<i64, u8>
     ensures { result ≡ count_val served_symbols 12 n }
 {
-    Ok(kept(n, |v| within(0, 5, v) || within(11, 15, v), 12)? as i64)
+    Ok(kept(
+        n,
+        |v| within(0, 5, v) || within(11, 15, v),
+        Rule::Range as u8,
+    )? as i64)
 }
 
 // E_wire: 000, or each digit within its limits.
@@ -70,7 +75,7 @@ fn is_wire_range(n: u64) -> bool
 fn served_wires(n: Option<u64>) -> Result<i64, u8>
     ensures { result ≡ count_val served_wires 12 n }
 {
-    Ok(kept(n, is_wire_range, 12)? as i64)
+    Ok(kept(n, is_wire_range, Rule::Range as u8)? as i64)
 }
 
 // An angle from 0 on.
@@ -96,15 +101,19 @@ fn in_bound(bound: u64, z: i64) -> bool
 fn bounded(bound: u64, r: Option<Decimal>) -> Result<i64, u8>
     ensures { result ≡ reading_val (in_bound (bound_of bound)) 11 r }
 {
-    let z = r.ok_or(10)?.value;
-    if in_bound(bound, z) { Ok(z) } else { Err(11) }
+    let z = r.ok_or(Rule::Written as u8)?.value;
+    if in_bound(bound, z) {
+        Ok(z)
+    } else {
+        Err(Rule::Value as u8)
+    }
 }
 
 // A decimal of one value alone: any other is 10.
 fn exactly(n: i64, r: Option<Decimal>) -> Result<i64, u8>
     ensures { result ≡ reading_val (equal_z n) 10 r }
 {
-    kept(r.map(|d| d.value), |z| z == n, 10)
+    kept(r.map(|d| d.value), |z| z == n, Rule::Written as u8)
 }
 
 // A decimal by its form.
@@ -128,9 +137,9 @@ fn layer(known: &Known<'_>, c: &[u8]) -> Result<i64, u8>
     ensures { result ≡ val_of (read_part (known_of known.now) layer_id c.now) }
 {
     if is_layer_id(c) {
-        numbered(index_of(known.spool, known.layers, c), 14)
+        numbered(index_of(known.spool, known.layers, c), Rule::Layer as u8)
     } else {
-        Err(11)
+        Err(Rule::Value as u8)
     }
 }
 
@@ -139,22 +148,22 @@ fn whole(code: u64, known: &Known<'_>, c: &[u8]) -> Result<i64, u8>
     ensures { result ≡ val_of (read_part (known_of known.now) (whole_of code) c.now) }
 {
     match code {
-        PART_FLAG => limited(fixed(c, 1), 0, 1, 11),
-        PART_POSITION => limited(fixed(c, 1), 1, 5, 11),
-        PART_COUNT => limited(count(c), 0, 999999999, 10),
-        PART_DAY => limited(day(c), 0, 99999999, 10),
-        PART_CLOCK => limited(clock(c), 0, 999999, 10),
-        PART_RANGE_0 => limited(fixed(c, 3), 0, 0, 12),
-        PART_RANGE_0_1 => limited(fixed(c, 3), 0, 1, 12),
-        PART_RANGE_0_2 => limited(fixed(c, 3), 0, 2, 12),
-        PART_RANGE_1 => limited(fixed(c, 3), 1, 1, 12),
+        PART_FLAG => limited(fixed(c, 1), 0, 1, Rule::Value as u8),
+        PART_POSITION => limited(fixed(c, 1), 1, 5, Rule::Value as u8),
+        PART_COUNT => limited(count(c), 0, 999999999, Rule::Written as u8),
+        PART_DAY => limited(day(c), 0, 99999999, Rule::Written as u8),
+        PART_CLOCK => limited(clock(c), 0, 999999, Rule::Written as u8),
+        PART_RANGE_0 => limited(fixed(c, 3), 0, 0, Rule::Range as u8),
+        PART_RANGE_0_1 => limited(fixed(c, 3), 0, 1, Rule::Range as u8),
+        PART_RANGE_0_2 => limited(fixed(c, 3), 0, 2, Rule::Range as u8),
+        PART_RANGE_1 => limited(fixed(c, 3), 1, 1, Rule::Range as u8),
         PART_SYMBOL_RANGE => served(fixed(c, 3)),
-        PART_SYMBOL_NAME => numbered(index_of(known.spool, known.symbols, c), 13),
+        PART_SYMBOL_NAME => numbered(index_of(known.spool, known.symbols, c), Rule::Symbol as u8),
         PART_LAYER_ID => layer(known, c),
         PART_WIRE_RANGE => served_wires(fixed(c, 3)),
-        PART_SIGN => limited(fixed(c, 1), 0, 4, 11),
-        PART_DIGIT => limited(fixed(c, 1), 0, 9, 11),
-        _ => limited(fixed(c, 4), 0, 9999, 10),
+        PART_SIGN => limited(fixed(c, 1), 0, 4, Rule::Value as u8),
+        PART_DIGIT => limited(fixed(c, 1), 0, 9, Rule::Value as u8),
+        _ => limited(fixed(c, 4), 0, 9999, Rule::Written as u8),
     }
 }
 

@@ -15,7 +15,7 @@ use crate::contents::read_kind;
 use crate::names::part;
 use crate::shapes::{fits, inner_of, is_free, shape_for};
 use crate::{Inner, Known, Next, Rest, Shape};
-use rules::{Digits, Span};
+use rules::{Digits, Rule, Span};
 use tables::{Row, TIMES_ONCE};
 
 fn place_of(place: u8, dump: usize) -> usize
@@ -63,7 +63,7 @@ fn put_shape(
     ensures { Puts (read_shape (known_of known.now) row.number (rule_of row) (shape_in known.now.spool.now shape)) (λ a. put_line (rule_of row) dump (value_of a) rec.old) rec.new result }
 {
     match shape {
-        Shape::Formless => return Err(5),
+        Shape::Formless => return Err(Rule::Form as u8),
         Shape::Opener => put_state(row.state, 2, rec),
         Shape::NoContent => put_state(row.state, 1, rec),
         Shape::Content(p) | Shape::Opening(p) => { put_content(row, known, p, dump, rec)? }
@@ -89,7 +89,7 @@ fn entered(row: Row, full: bool, shape: Shape) -> Next
     ensures { result ≡ next_for full row.number (inner_of (kind_of row)) shape }
 {
     if full {
-        return Next::Refuse(11);
+        return Next::Refuse(Rule::Value as u8);
     }
     match shape {
         Shape::Opener | Shape::Opening(_) => Next::Begin(Inner {
@@ -114,16 +114,16 @@ fn act_shape(
     ensures { Acts (λ _. rule_of row) dump rec.old (act_shape (known_of known.now) d full row.number (rule_of row) (shape_in known.now.spool.now shape)) rec.new result }
 {
     if matches!(shape, Shape::Formless) {
-        return Next::Refuse(5);
+        return Next::Refuse(Rule::Form as u8);
     }
     if !reaches(d, row.least) {
-        return Next::Refuse(6);
+        return Next::Refuse(Rule::Key as u8);
     }
     if !fits(row, known.spool, shape) {
-        return Next::Refuse(5);
+        return Next::Refuse(Rule::Form as u8);
     }
     if twice(row.times, full) {
-        return Next::Refuse(7);
+        return Next::Refuse(Rule::Twice as u8);
     }
     match put_shape(row, known, shape, dump, rec) {
         Err(n) => Next::Refuse(n),

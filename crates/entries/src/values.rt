@@ -13,6 +13,7 @@ use crate::Known;
 use crate::by_forms::forms_for;
 use crate::parts::piece;
 use crate::powers::{amount_at, served_power};
+use rules::Rule;
 use tables::{ACROSS_ARC, ACROSS_AXES, ACROSS_ENDS, ACROSS_POWER, Row};
 
 // A value to its place, where it is one.
@@ -56,7 +57,7 @@ fn each(
         let a = piece(codes % 100, known, &c[at..]);
         let e = at + a.end;
         if c.len() <= e {
-            return least(worst, Err(10));
+            return least(worst, Err(Rule::Written as u8));
         }
         worst = least(worst, put_value(a.val, to, rec));
         codes /= 100;
@@ -64,7 +65,7 @@ fn each(
     }
     let a = piece(codes % 100, known, &c[at..]);
     if at + a.end < c.len() {
-        return least(worst, Err(10));
+        return least(worst, Err(Rule::Written as u8));
     }
     least(worst, put_value(a.val, last, rec))
 }
@@ -112,6 +113,6 @@ pub(crate) fn values(
     if agree(f.across, rec, p) {
         Ok(())
     } else {
-        Err(11)
+        Err(Rule::Value as u8)
     }
 }

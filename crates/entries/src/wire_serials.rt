@@ -10,6 +10,7 @@ ghost use Rattle.entries.specs.Entering.{Puts, plainly, read_ends};
 use crate::contents::put_two;
 use leaves::bytes::find;
 use leaves::numbers::serial;
+use rules::Rule;
 
 // The states of a partner.
 const PARTNER_EMPTY: u64 = 1;
@@ -25,7 +26,7 @@ fn put_partner(c: &[u8], p: usize, rec: &mut [i64]) -> Result<(), u8>
         put_two(PARTNER_EMPTY, 0, p, rec);
         return Ok(());
     }
-    put_two(PARTNER_GIVEN, serial(c).ok_or(10)?, p, rec);
+    put_two(PARTNER_GIVEN, serial(c).ok_or(Rule::Written as u8)?, p, rec);
     Ok(())
 }
 
@@ -35,7 +36,7 @@ fn put_both(first: &[u8], last: &[u8], p: usize, rec: &mut [i64]) -> Result<(), 
     ensures { Puts (read_ends (first.now ∷ split 44 last.now)) (λ v. sets rec.old p (plainly v)) rec.new result }
 {
     if last.contains(&b',') {
-        return Err(10);
+        return Err(Rule::Written as u8);
     }
     put_partner(first, p, rec)?;
     put_partner(last, p + 2, rec)
@@ -50,7 +51,7 @@ fn put_ends(c: &[u8], p: usize, rec: &mut [i64]) -> Result<(), u8>
     if e < c.len() {
         put_both(&c[..e], &c[e + 1..], p, rec)
     } else {
-        Err(10)
+        Err(Rule::Written as u8)
     }
 }
 
@@ -61,8 +62,8 @@ pub(crate) fn put_wire_serial(c: &[u8], p: usize, rec: &mut [i64]) -> Result<(),
 {
     let e = find(c, b',');
     if c.len() <= e {
-        return Err(10);
+        return Err(Rule::Written as u8);
     }
-    rec[p] = serial(&c[..e]).ok_or(10)? as i64;
+    rec[p] = serial(&c[..e]).ok_or(Rule::Written as u8)? as i64;
     put_ends(&c[e + 1..], p + 1, rec)
 }

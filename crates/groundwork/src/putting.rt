@@ -9,14 +9,14 @@ use account::{
     BLOCK_CHAIN, BLOCK_DEFINES, BLOCK_DRAWING, BLOCK_FIGURES, BLOCK_FILE, BLOCK_SYMBOL, BLOCK_TOP,
     BLOCK_WIRE, Complete, Now, SCRATCH_LENGTH, Step,
 };
-use rules::WIDTH;
+use rules::{Rule, WIDTH};
 
 // "19: record doesn't fit the table": a line that took a record too many is refused. It is the last thing that is asked of a line.
 pub fn within(limit: usize, did: Step) -> Step
     ensures { result ≡ within_limit limit did }
 {
     match did {
-        Step::Go(n) if limit < n.records => Step::Stop(19),
+        Step::Go(n) if limit < n.records => Step::Stop(Rule::Table as u8),
         _ => did,
     }
 }

@@ -13,7 +13,7 @@ use account::{BLOCK_ENDED, Now, Step, TALLY_SERIALS, TALLY_SYMBOL_RANGE, TALLY_W
 use entries::Rest;
 use entries::names::part;
 use leaves::numbers::serial;
-use rules::{Class, Digits, Span};
+use rules::{Class, Digits, Rule, Span};
 
 // A number is kept with the place and the length of the content that it was read from: no place is so great, and no content of a serial so
 // long. (specs/SerialNumbers of account has them under the same names.)
@@ -59,7 +59,7 @@ pub fn keep_own(here: Now, own: u64, at: Span, tally: &mut [u32], serials: &mut 
 {
     let count = tally[TALLY_SERIALS] as usize;
     let Err(place) = search(&serials[..count], own) else {
-        return Step::Stop(15);
+        return Step::Stop(Rule::Serial as u8);
     };
     serials.copy_within(place..count, place + 1);
     serials[place] = kept_number(own, at);
@@ -151,7 +151,7 @@ pub fn partners_met(did: Step, class: Class, s: &[u8], tally: &[u32], serials: &
     };
     let kept = &serials[..tally[TALLY_SERIALS] as usize];
     if n.block == BLOCK_ENDED && tests_partners(class, tally) && !all_met(s, kept) {
-        return Step::Stop(21);
+        return Step::Stop(Rule::Partner as u8);
     }
     did
 }

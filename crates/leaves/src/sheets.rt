@@ -8,7 +8,7 @@ ghost use Rattle.leaves.specs.Drawing.{sheet_of, multiplier_in, numbered_sheet, 
 use crate::bytes::{find, within};
 use crate::numbers::count;
 use crate::{Scale, SheetSize};
-use rules::SHEET_MULTIPLIERS;
+use rules::{Rule, SHEET_MULTIPLIERS};
 
 // The text is n, without needless zeros: for n up to 99.
 fn is_number(s: &[u8], n: u8) -> bool
@@ -65,11 +65,11 @@ pub fn sheet(s: &[u8]) -> Option<SheetSize>
 fn one_count(a: Option<u64>) -> Result<Scale, u8>
     ensures { result ≡ one_count a }
 {
-    let p = a.ok_or(10)?;
+    let p = a.ok_or(Rule::Written as u8)?;
     if within(1, 99999, p) {
         return Ok(Scale { p: p as u32, q: 1 });
     }
-    Err(11)
+    Err(Rule::Value as u8)
 }
 
 // p and q
@@ -77,15 +77,15 @@ fn one_count(a: Option<u64>) -> Result<Scale, u8>
 fn two_counts(a: Option<u64>, b: Option<u64>) -> Result<Scale, u8>
     ensures { result ≡ two_counts a b }
 {
-    let p = a.ok_or(10)?;
-    let q = b.ok_or(10)?;
+    let p = a.ok_or(Rule::Written as u8)?;
+    let q = b.ok_or(Rule::Written as u8)?;
     if within(1, 99999, p) && within(1, 99999, q) && p < q {
         return Ok(Scale {
             p: p as u32,
             q: q as u32,
         });
     }
-    Err(11)
+    Err(Rule::Value as u8)
 }
 
 // A scale: p, or p/q with p < q; a number not written as said is 10, one that breaks the rule 11.

@@ -8,7 +8,7 @@ use crate::ends::cr_from;
 use crate::runs::{clean_run, indent, key_run, opens_at};
 use crate::{MOST_BYTES, Seen};
 use leaves::bytes::spells;
-use rules::{Equation, LineForm, Opener, Refusal, Span};
+use rules::{Equation, LineForm, Opener, Refusal, Rule, Span};
 
 const COMMENT: u8 = b'#';
 
@@ -99,8 +99,8 @@ fn line_form(l: &[u8], at: u32, volume: u8, line: u32) -> LineForm
 {
     let number = match form_at(l, at) {
         Ok(form) => return form,
-        Err(Flaw::BadBytes) => 4,
-        Err(Flaw::NoForm) => 5,
+        Err(Flaw::BadBytes) => Rule::Byte as u8,
+        Err(Flaw::NoForm) => Rule::Form as u8,
     };
     LineForm::Refused(Refusal {
         number,

@@ -15,6 +15,53 @@ pub struct Class {
     pub wires: Digits,
 }
 
+// The rules of document 01, "Refusal numbers", by their numbers. What is answered is the number: `Rule::Order as u8`.
+#[derive(Clone, Copy, Debug, PartialEq, Eq)]
+pub enum Rule {
+    // the class or its wire part is none
+    Class = 1,
+    // the spool is none
+    Spool = 2,
+    // a volume's lines are not ended as they must be
+    Ends = 3,
+    // a byte may not stand there
+    Byte = 4,
+    // the line has none of the forms, or not its key's
+    Form = 5,
+    // the key is not known here
+    Key = 6,
+    // the key stands a second time
+    Twice = 7,
+    // something that the block must have is missing
+    Missing = 8,
+    // the blocks are out of order
+    Order = 9,
+    // a value is not written as it must be
+    Written = 10,
+    // a value breaks another rule
+    Value = 11,
+    // the range is not served
+    Range = 12,
+    // the symbol is not defined
+    Symbol = 13,
+    // a layer is not declared, or twice, or not used
+    Layer = 14,
+    // a name or serial number stands a second time
+    Serial = 15,
+    // the chain of volumes breaks
+    Chain = 16,
+    // a count of elements is wrong
+    Count = 17,
+    // skipped blocks nest too deep
+    Nesting = 18,
+    // the record does not fit the table
+    Table = 19,
+    // the output is too short
+    Output = 20,
+    // a partner is no own number
+    Partner = 21,
+}
+
 // The first broken rule: its number in document 01, and where.
 #[derive(Clone, Copy)]
 pub struct Refusal {

@@ -10,7 +10,7 @@ use groundwork::classes::class_of;
 use groundwork::table::clear;
 use lines::ends::first_unsound;
 use lines::spool::{volume_name, volumes};
-use rules::{Class, Digits, Refusal, Span, WIDTH};
+use rules::{Class, Digits, Refusal, Rule, Span, WIDTH};
 use steps::read_volume;
 
 fn nothing_yet() -> Now
@@ -48,7 +48,7 @@ fn read_set(s: &[u8], class: Class, limit: usize, t: &mut [i64]) -> Result<u32, 
     let count = l.count as usize;
     if count == 0 {
         return Err(Refusal {
-            number: 2,
+            number: Rule::Spool as u8,
             volume: 0,
             line: 0,
         });
@@ -56,7 +56,7 @@ fn read_set(s: &[u8], class: Class, limit: usize, t: &mut [i64]) -> Result<u32, 
     let unsound = first_unsound(s, l);
     if unsound != 0 {
         return Err(Refusal {
-            number: 3,
+            number: Rule::Ends as u8,
             volume: unsound as u8,
             line: 0,
         });
@@ -111,7 +111,7 @@ pub fn read(s: &[u8], class: u64, wire: u64, t: &mut [i64]) -> Result<u32, Refus
     clear(t);
     let Some(c) = class_of(class, wire) else {
         return Err(Refusal {
-            number: 1,
+            number: Rule::Class as u8,
             volume: 0,
             line: 0,
         });
@@ -133,7 +133,7 @@ pub fn check(s: &[u8], class: u64, wire: u64, records: u32) -> Result<u32, Refus
 {
     let Some(c) = class_of(class, wire) else {
         return Err(Refusal {
-            number: 1,
+            number: Rule::Class as u8,
             volume: 0,
             line: 0,
         });

@@ -6,7 +6,7 @@ ghost use Rattle.sets.specs.SetReading.{IsAccepted};
 use crate::reader::judge;
 use leaves::NoRoom;
 use leaves::write::clear;
-use rules::Refusal;
+use rules::{Refusal, Rule};
 use volumes::put_set;
 
 // An accepted spool's fixed form and zeros behind it; "20 output shorter than the written set".
@@ -22,7 +22,7 @@ fn write_set(s: &[u8], out: &mut [u8]) -> Result<u32, Refusal>
         Err(NoRoom) => {
             clear(out);
             Err(Refusal {
-                number: 20,
+                number: Rule::Output as u8,
                 volume: 0,
                 line: 0,
             })

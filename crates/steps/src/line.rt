@@ -31,7 +31,7 @@ use elements::points::{on_chain, on_hide};
 use elements::texts::on_text;
 use elements::wires::{begin_wire, on_wire};
 use groundwork::serials::partners_met;
-use rules::WIDTH;
+use rules::{Rule, WIDTH};
 
 // The scratch's first record is the open drawing's or symbol's own, the second a figure's or one line's; it ends here.
 const SECOND_END: usize = WIDTH + WIDTH;
@@ -499,7 +499,7 @@ fn figure_line(
         BLOCK_TEXT => in_text(s, x, tally, symbols, layers, inner, t),
         BLOCK_PLACED => in_placed(s, x, tally, symbols, layers, serials, marks, inner, t),
         BLOCK_WIRE => in_wire(s, x, tally, symbols, layers, serials, marks, inner, t),
-        _ => Step::Stop(9),
+        _ => Step::Stop(Rule::Order as u8),
     }
 }
 

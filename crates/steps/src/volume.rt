@@ -13,7 +13,7 @@ use groundwork::blocks::at_block;
 use groundwork::putting::{own_after, put_done, within};
 use groundwork::walk::next_line;
 use leaves::truth::both;
-use rules::{Class, LineForm, Refusal};
+use rules::{Class, LineForm, Refusal, Rule};
 
 fn after_element(here: Now) -> bool
     ensures { result ≡ after_element here }
@@ -52,7 +52,7 @@ fn at_last(complete: bool, did: Step) -> Step
     match did {
         Step::Go(n) if complete => Step::Go(next_volume(n)),
         Step::Stop(k) if complete || k <= 9 => Step::Stop(k),
-        _ => Step::Stop(9),
+        _ => Step::Stop(Rule::Order as u8),
     }
 }
 
@@ -72,7 +72,7 @@ fn closed(v: Volume, line: u32, did: Step) -> Result<Now, Refusal>
 {
     match did {
         Step::Go(n) => Ok(n),
-        Step::Skip(_) => refused(v, 9, line),
+        Step::Skip(_) => refused(v, Rule::Order as u8, line),
         Step::Stop(k) => refused(v, k, line),
     }
 }
@@ -115,7 +115,7 @@ pub fn read_volume(
     loop {
         let seen = next_line(body, v, pos);
         if seen.next == pos.at {
-            return refused(v, 9, pos.line);
+            return refused(v, Rule::Order as u8, pos.line);
         }
         let complete = completes(here, seen.form, last_volume);
         let place = Where {
