@@ -169,6 +169,7 @@ fn layer_line(
     if !is_layer_id(part(s, key)) {
         return Step::Stop(Rule::Key as u8);
     }
+    // (no `?`: a line is answered by account's Step)
     let name = match layer_name(s, rest) {
         Ok(name) => name,
         Err(n) => return Step::Stop(n),

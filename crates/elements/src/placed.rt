@@ -265,6 +265,7 @@ fn on_placed_own(
         LineForm::Eof => {
             return Step::Stop(Rule::Order as u8);
         }
+        // (two arms: the proof goes by each of them)
         LineForm::Opens(_) => {}
         LineForm::Equals(_) => {}
         LineForm::Refused(r) => {

@@ -77,6 +77,7 @@ fn point_line(
 {
     let full = [MOST_POINTS <= here.points];
     let next = act(table, s, symbols, layers, no_digits(), &full, form, 0, rec);
+    // (not `if let`: the proof did not close with the other kinds in one arm)
     match next {
         Next::Stay => next,
         Next::Entry(_) => {

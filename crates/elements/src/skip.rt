@@ -109,6 +109,7 @@ pub fn skip_block(s: &[u8], body: &[u8], v: Volume, p: Pos, left: u8) -> Result<
                     });
                 }
                 let r = skip_block(s, body, v, Pos { at, line }, left - 1);
+                // (not `?`: the walk's proof did not close with it)
                 let Ok(q) = r else {
                     return r;
                 };

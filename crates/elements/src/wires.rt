@@ -116,6 +116,7 @@ pub fn begin_wire(did: Step, class: Class, at: Where, t: &mut [i64]) -> Step
     ensures { (result ≡ begun_step class did) × (t.new ≡ begun_put at did t.old) }
 {
     match did {
+        // (not a guard: the proof did not close with the other steps in one arm)
         Step::Go(n) => {
             if n.block != BLOCK_WIRE {
                 return Step::Go(n);
@@ -460,6 +461,7 @@ fn read_line(
         LineForm::Eof => {
             return Step::Stop(Rule::Order as u8);
         }
+        // (two arms: the proof goes by each of them)
         LineForm::Opens(_) => {}
         LineForm::Equals(_) => {}
         LineForm::Refused(r) => {

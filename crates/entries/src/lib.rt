@@ -46,7 +46,7 @@ pub(crate) struct Forms {
     turnless: bool,
 }
 
-// What follows a key: `:{`, or `=` and the rest of the line.
+// What follows a key: `:{`, or `=` and the rest of the line. (No Option: a brace is no lack of a rest.)
 #[derive(Clone, Copy)]
 pub enum Rest {
     Brace,

@@ -27,7 +27,7 @@ fn all_above(s: &[u8]) -> bool
     s.iter().fold(true, |high, b| high & (END < *b))
 }
 
-// Over such bytes from a place on, eight at a time.
+// Over such bytes from a place on, eight at a time. (The step is eight and no byte is looked at twice: a `for` has no such step.)
 fn skip_eights(s: &[u8], from: usize) -> usize
     requires { from ≤ length s.now }
     ensures { NoEnd s.now from result }

@@ -43,6 +43,7 @@ fn walk(s: &[u8]) -> Layout
     let mut lengths = [0u32; 12];
     let mut count = 0;
     let mut at = 0;
+    // (A volume says where the next one stands: there is no range to go over.)
     while at < s.len() {
         if count == MOST_VOLUMES {
             return no_layout();

@@ -15,7 +15,8 @@ pub struct Class {
     pub wires: Digits,
 }
 
-// The rules of document 01, "Refusal numbers", by their numbers. What is answered is the number: `Rule::Order as u8`.
+// The rules of document 01, "Refusal numbers", by their numbers. What goes on is the number, `Rule::Order as u8`: C is told it, and of two on
+// one line the smaller counts (`cons_g` of specs/RefusalNumbers).
 #[derive(Clone, Copy, Debug, PartialEq, Eq)]
 pub enum Rule {
     // the class or its wire part is none
@@ -108,7 +109,7 @@ pub const SHEET_MULTIPLIERS: [u8; 8] = [4, 9, 16, 25, 36, 49, 64, 81];
 // most bytes each may have.
 pub const TEXT_LIMITS: [u8; 13] = [20, 20, 20, 10, 40, 40, 20, 20, 60, 60, 20, 200, 20];
 
-// How many numbers a record has, and the kinds of records, as `RecordTable` names them.
+// How many numbers a record has, and the kinds of records, as `RecordTable` names them: numbers, as the table that C is lent holds them.
 pub const WIDTH: usize = 32;
 
 pub const KIND_HEADER: u8 = 1;

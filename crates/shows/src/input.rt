@@ -31,6 +31,7 @@ pub fn read_all<R: Read>(from: &mut R, buf: &mut [u8]) -> Input
     ensures end { IsNone result.failed → result.bytes < length buf.new → IsAtEnd (R.remaining from.new) }
 {
     let mut n = 0;
+    // (A read says how far it came: there is no range to go over.)
     while n < buf.len() {
         match from.read(&mut buf[n..]) {
             Ok(0) => return ended(n),
