@@ -9,6 +9,7 @@ use account::{
     BLOCK_CHAIN, BLOCK_DEFINES, BLOCK_DRAWING, BLOCK_FIGURES, BLOCK_FILE, BLOCK_SYMBOL, BLOCK_TOP,
     BLOCK_WIRE, Complete, Now, SCRATCH_LENGTH, Step,
 };
+use leaves::write::copy;
 use rules::{Rule, WIDTH};
 
 // "19: record doesn't fit the table": a line that took a record too many is refused. It is the last thing that is asked of a line.
@@ -96,7 +97,7 @@ fn put_record(rec: &[i64], number: usize, t: &mut [i64])
 {
     if number < t.len() / WIDTH {
         let w = WIDTH * number;
-        t[w..w + WIDTH].copy_from_slice(rec);
+        copy(rec, &mut t[w..w + WIDTH]);
     }
 }
 

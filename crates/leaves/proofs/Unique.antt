@@ -251,3 +251,6 @@ put-ratio_unique p q out out₁ out₂ r₁ r₂ c₁ c₂ = both-put c₁ c₂
 
 put-ratio-code : One put-ratio'.Kinds.ps put-ratio'.Kinds.r put-ratio'.Reads.Learnt {A = Result ℕ NoRoom × List ℕ} (λ κs r e. (r, e.1.1.0.now))
 put-ratio-code κs x r₁ r₂ e₁ e₂ c₁ c₂ = paired (put-ratio_unique x.0 x.1.0 x.1.1.0.now e₁.1.1.0.now e₂.1.1.0.now r₁ r₂ c₁ c₂)
+
+pub copy_unique : {X : Type 0} (from to₁ to₂ : List X) → to₁ ≡ from → to₂ ≡ from → to₁ ≡ to₂
+copy_unique from to₁ to₂ c₁ c₂ = c₁ ∙ sym c₂

@@ -1,5 +1,5 @@
 // A line `}`: what was noted is written, and the block closed.
-ghost use Rattle.std.specs.Prelude.{◌≡◌, true, ◌≤◌, length};
+ghost use Rattle.std.specs.Prelude.{◌≡◌, true, ◌≤◌, ◌++◌, length, drop, take};
 ghost use Rattle.rules.specs.Blocks.{around};
 ghost use Rattle.pens.specs.Texts.{Safe};
 ghost use Rattle.pens.specs.Closing.{Shuts, ShutsRows, ShutsDrawing, ShutsSymbol, ShutsWire, around_block, in_part, part_closed, CloseDone, WireDone};
@@ -53,6 +53,17 @@ fn around(part: u8) -> u8
     if part == 1 { 0 } else { 1 }
 }
 
+// Two neighbouring parts of the output exchanged in place: what stands from n on comes first. Each part is turned round, then the whole.
+// (`rotate_left` is not in place: one part, up to 4,096 bytes of lines, waits in an array on the stack.)
+fn exchange(t: &mut [u8], n: usize)
+    requires { n ≤ length t.old }
+    ensures { t.new ≡ drop n t.old ++ take n t.old }
+{
+    t[..n].reverse();
+    t[n..].reverse();
+    t.reverse();
+}
+
 // DRAWING_FORMAT's rows come before `layer_name`, which is written already.
 fn close_drawing(s: &[u8], pen: Pen, notes: &[u32], out: &mut [u8]) -> Result<Pen, NoRoom>
     requires { Safe pen out.old }
@@ -70,7 +81,7 @@ fn close_drawing(s: &[u8], pen: Pen, notes: &[u32], out: &mut [u8]) -> Result<Pe
         &mut out[middle..],
     )?;
     let to = middle + n;
-    out[from..to].rotate_left(middle - from);
+    exchange(&mut out[from..to], middle - from);
     shut(at_block(pen, n, BLOCK_DRAWING, 0), BLOCK_TOP, out)
 }
 
@@ -83,7 +94,7 @@ fn close_symbol(s: &[u8], pen: Pen, notes: &[u32], out: &mut [u8]) -> Result<Pen
     let middle = pen.at;
     let n = put_noted(TABLE_SYMBOL, 0, s, notes[0], &mut out[middle..])?;
     let to = middle + n;
-    out[from..to].rotate_left(middle - from);
+    exchange(&mut out[from..to], middle - from);
     let m = put_noted(TABLE_SYMBOL, 3, s, notes[3], &mut out[to..])?;
     shut(at_block(pen, n + m, BLOCK_SYMBOL, 0), BLOCK_DEFINES, out)
 }

@@ -14,7 +14,7 @@ use account::{BLOCK_TOP, BLOCK_WIRE, MOST_ROWS};
 use entries::Rest;
 use entries::names::part;
 use leaves::NoRoom;
-use leaves::write::put;
+use leaves::write::{copy, put};
 use lines::forms::look;
 use lines::spool::{volume_name, volumes};
 use pens::Pen;
@@ -103,8 +103,8 @@ fn put_head(name: &[u8], size: usize, out: &mut [u8])
     requires { (length name.now ≤ 8) × (12 ≤ length out.old) }
     ensures { out.new ≡ head_bytes name.now size ++ drop 12 out.old }
 {
-    out[..10].copy_from_slice(b"VP        ");
-    out[2..2 + name.len()].copy_from_slice(name);
+    copy(b"VP        ", &mut out[..10]);
+    copy(name, &mut out[2..2 + name.len()]);
     out[10] = (size / 256 % 256) as u8;
     out[11] = (size % 256) as u8;
 }

@@ -15,8 +15,8 @@ overflow_add-to c =
     let pre = c.requires in
     record { fits = omega (arith, room-left args.out.now args.pen.at pre.within _ _ c.put_rows.ensures.0 c.in_ok-n.n c.in_ok-n.was) }
 
-pub slice_bounds-rotate_left-end : goal.slice_bounds-rotate_left-end
-slice_bounds-rotate_left-end c =
+pub slice_bounds-exchange-end : goal.slice_bounds-exchange-end
+slice_bounds-exchange-end c =
     let args = c.args in
     let pre = c.requires in
     let the-put-rows = c.put_rows in
@@ -34,7 +34,7 @@ shut-requires c =
     let args = c.args in
     let pre = c.requires in
     let the-put-rows = c.put_rows in
-    safe-there args.pen _ c.in_ok-n.n 2 c.at_block.ensures _ pre.begun (turned-room args.out.now args.pen.at pre.within _ _ the-put-rows.ensures.0 c.in_ok-n.n c.in_ok-n.was args.pen.start _ c.rotate_left.ensures.after)
+    safe-there args.pen _ c.in_ok-n.n 2 c.at_block.ensures _ pre.begun (turned-room args.out.now args.pen.at pre.within _ _ the-put-rows.ensures.0 c.in_ok-n.n c.in_ok-n.was args.pen.start _ c.exchange.ensures)
 
 pub returns-in_err-n : goal.returns-in_err-n
 returns-in_err-n c =
@@ -48,5 +48,5 @@ returns c =
     let args = c.args in
     let pre = c.requires in
     let the-put-rows = c.put_rows in
-    let the-exchange = c.rotate_left in
-    (kept_then _ _ _ _ (turned_same args.out.now args.pen.at pre.within _ _ the-put-rows.ensures.0 c.in_ok-n.n c.in_ok-n.was args.pen.start _ the-exchange.ensures.after) c.shut.ensures.0, λ k s z. let l = lays args.out.now args.pen.at pre.within _ _ (drawing_rows k s) (the-put-rows.ensures.1 refl k (s ∷ []) 0 (drawing-part _ k _ s z) (tables-some 7) refl) c.in_ok-n.n c.in_ok-n.was in inserted (drawing_rows k s) c.in_ok-n.n args.pen.at args.out.now _ l args.pen.start pre.begun _ the-exchange.ensures.after shut_bytes _ _ _ (shut_at args.pen _ c.in_ok-n.n 2 c.at_block.ensures (length (drawing_rows k s) + 3) 0 _ _ _ _ (omega (arith, l.size)) refl c.shut.ensures.1))
+    let the-exchange = c.exchange in
+    (kept_then _ _ _ _ (turned_same args.out.now args.pen.at pre.within _ _ the-put-rows.ensures.0 c.in_ok-n.n c.in_ok-n.was args.pen.start _ the-exchange.ensures) c.shut.ensures.0, λ k s z. let l = lays args.out.now args.pen.at pre.within _ _ (drawing_rows k s) (the-put-rows.ensures.1 refl k (s ∷ []) 0 (drawing-part _ k _ s z) (tables-some 7) refl) c.in_ok-n.n c.in_ok-n.was in inserted (drawing_rows k s) c.in_ok-n.n args.pen.at args.out.now _ l args.pen.start pre.begun _ the-exchange.ensures shut_bytes _ _ _ (shut_at args.pen _ c.in_ok-n.n 2 c.at_block.ensures (length (drawing_rows k s) + 3) 0 _ _ _ _ (omega (arith, l.size)) refl c.shut.ensures.1))
