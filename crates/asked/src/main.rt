@@ -3,7 +3,7 @@
 // its wire part, the lengths of a table and of an output to be lent, the length of a spool, and the spool. tools/frames.py frames them.
 #![tactic(auto)]
 
-ghost use Rattle.std.specs.Prelude.{⊤};
+ghost use Rattle.std.specs.Prelude.{◌≡◌, ◌+◌, ◌*◌, ⊤};
 
 mod comparing;
 mod lent;
@@ -11,7 +11,7 @@ mod listing;
 mod rewriting;
 
 use shows::input::read_all;
-use shows::questions::{MOST_QUESTIONS, next_spool};
+use shows::questions::{MOST_QUESTIONS, next_spool, pair};
 use std::io;
 use std::io::{Read, Write};
 
@@ -57,8 +57,10 @@ const MOST_TABLE: usize = 131072;
 const MOST_OUT: usize = 65536;
 
 // Four bytes, high first.
-fn number(a: u8, b: u8, c: u8, d: u8) -> usize {
-    u32::from_be_bytes([a, b, c, d]) as usize
+fn number(a: u8, b: u8, c: u8, d: u8) -> usize
+    ensures { result ≡ 65536 * (256 * a + b) + (256 * c + d) }
+{
+    65536 * pair(a, b) + pair(c, d)
 }
 
 // The front end that is asked for: its class, and the class's wire part.

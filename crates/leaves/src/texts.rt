@@ -9,8 +9,9 @@ use crate::TextRule;
 use crate::bytes::all_in;
 use rules::TEXT_LIMITS;
 
-// The free-text keys in the order of TEXT_LIMITS, which is the rules' own table: the number of each one's set of bytes.
-const TEXT_SETS: [u8; 13] = [1, 1, 1, 1, 0, 0, 3, 0, 0, 0, 0, 0, 0];
+// The free-text keys in the order of TEXT_LIMITS, which is the rules' own table: the number of each one's set of bytes. The tables' rows
+// have theirs from here, so that each stands once.
+pub const TEXT_SETS: [u8; 13] = [1, 1, 1, 1, 0, 0, 3, 0, 0, 0, 0, 0, 0];
 
 // The rule of a free-text key, by its number in the order of TEXT_LIMITS. There is none from 13 on.
 pub fn text_rule(key: u8) -> TextRule

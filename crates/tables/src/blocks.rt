@@ -15,6 +15,7 @@ use crate::{
     PART_POSITION, PART_RANGE_0, PART_RANGE_0_1, PART_RANGE_0_2, PART_RANGE_1, PART_SYMBOL_RANGE,
     PART_WIRE_RANGE, TIMES_ANY,
 };
+use leaves::texts::TEXT_SETS;
 use rules::{Digits, TEXT_LIMITS};
 
 // several forms, two digits each, the first one last: type,x,y and the like
@@ -35,12 +36,6 @@ const NUM_FORMS: u64 = 24_21_21_07_05;
 const POWER_FORMS: u64 = 7_03_03;
 
 // sets of bytes
-const ASCII: u8 = 1;
-
-const ANY_BYTES: u8 = 0;
-
-const TELEPHONE: u8 = 3;
-
 const LETTERS_AND_DIGITS: u8 = 2;
 
 const CIRCUIT_BYTES: u8 = 4;
@@ -63,14 +58,14 @@ pub(crate) static FILE_ROWS: [Entry; 16] = [
     row!(5, NEXT_FILE, kind: HOLDS_VOLUME_NAME, may: true),
     row!(6, DATE, parts: PART_DAY, place: 14),
     row!(7, TIME, parts: PART_CLOCK, place: 15),
-    row!(8, CAD, kind: HOLDS_TEXT, most: TEXT_LIMITS[0], set: ASCII, place: 16),
-    row!(9, OS, kind: HOLDS_TEXT, most: TEXT_LIMITS[1], set: ASCII, place: 18),
-    row!(10, HARD, kind: HOLDS_TEXT, most: TEXT_LIMITS[2], set: ASCII, place: 20),
-    row!(11, VER, kind: HOLDS_TEXT, most: TEXT_LIMITS[3], set: ASCII, place: 22),
-    row!(12, CORP, kind: HOLDS_TEXT, most: TEXT_LIMITS[4], set: ANY_BYTES, place: 24, may: true),
-    row!(13, MAKE, kind: HOLDS_TEXT, most: TEXT_LIMITS[5], set: ANY_BYTES, place: 26, may: true),
-    row!(14, TEL, kind: HOLDS_TEXT, most: TEXT_LIMITS[6], set: TELEPHONE, place: 28, may: true),
-    row!(15, NAME, kind: HOLDS_TEXT, most: TEXT_LIMITS[7], set: ANY_BYTES, place: 30, may: true),
+    row!(8, CAD, kind: HOLDS_TEXT, most: TEXT_LIMITS[0], set: TEXT_SETS[0], place: 16),
+    row!(9, OS, kind: HOLDS_TEXT, most: TEXT_LIMITS[1], set: TEXT_SETS[1], place: 18),
+    row!(10, HARD, kind: HOLDS_TEXT, most: TEXT_LIMITS[2], set: TEXT_SETS[2], place: 20),
+    row!(11, VER, kind: HOLDS_TEXT, most: TEXT_LIMITS[3], set: TEXT_SETS[3], place: 22),
+    row!(12, CORP, kind: HOLDS_TEXT, most: TEXT_LIMITS[4], set: TEXT_SETS[4], place: 24, may: true),
+    row!(13, MAKE, kind: HOLDS_TEXT, most: TEXT_LIMITS[5], set: TEXT_SETS[5], place: 26, may: true),
+    row!(14, TEL, kind: HOLDS_TEXT, most: TEXT_LIMITS[6], set: TEXT_SETS[6], place: 28, may: true),
+    row!(15, NAME, kind: HOLDS_TEXT, most: TEXT_LIMITS[7], set: TEXT_SETS[7], place: 30, may: true),
 ];
 
 // `range`.
@@ -112,10 +107,10 @@ pub(crate) static LATER_ROWS: [Entry; 5] = [
 pub(crate) static DRAWING_ROWS: [Entry; 8] = [
     row!(0, SIZE, kind: HOLDS_SHEET, place: 5),
     row!(1, SCALE, kind: HOLDS_RATIO, place: 7),
-    row!(2, PROJECT, kind: HOLDS_TEXT, most: TEXT_LIMITS[8], set: ANY_BYTES, place: 12),
-    row!(3, DRAWNAME, kind: HOLDS_TEXT, most: TEXT_LIMITS[9], set: ANY_BYTES, place: 14),
+    row!(2, PROJECT, kind: HOLDS_TEXT, most: TEXT_LIMITS[8], set: TEXT_SETS[8], place: 12),
+    row!(3, DRAWNAME, kind: HOLDS_TEXT, most: TEXT_LIMITS[9], set: TEXT_SETS[9], place: 14),
     row!(4, DATE, parts: PART_DAY, place: 9),
-    row!(5, DRAWER, kind: HOLDS_TEXT, most: TEXT_LIMITS[10], set: ANY_BYTES, place: 16, may: true),
+    row!(5, DRAWER, kind: HOLDS_TEXT, most: TEXT_LIMITS[10], set: TEXT_SETS[10], place: 16, may: true),
     row!(6, FLOOR_HEIGHT, parts: PART_NOT_NEGATIVE, place: 11, may: true, least: Digits { middle: 0, last: 1 }, state: 10),
     row!(7, LAYER_NAME, kind: HOLDS_BLOCK, inner: 1),
 ];

@@ -7,6 +7,7 @@ use crate::{
     ACROSS_ARC, ACROSS_AXES, ACROSS_ENDS, ARC_FORMS, HOLDS_BLOCK, HOLDS_CIRCLE, HOLDS_TEXT,
     TIMES_ANY,
 };
+use leaves::texts::TEXT_SETS;
 use rules::{Digits, TEXT_LIMITS};
 
 const MOST_POINTS: u8 = 100;
@@ -27,9 +28,6 @@ const LETTERING_IN_LAYER: u64 = 5_23_21_22_22_21_21_17;
 const LETTERING_IN_SYMBOL: u64 = 5_23_21_22_22_20_20_17;
 
 const PLACING: u64 = 22_23_21_21_15;
-
-// a set of bytes
-const ANY_BYTES: u8 = 0;
 
 // The rows that stand in several tables. A circle has in a layer an arc's values, in a symbol those or a whole circle's.
 const LAYER_LINE: Entry =
@@ -96,15 +94,15 @@ pub(crate) static SYMBOL_POINT_ROWS: [Entry; 1] = [
 // `text`, whose two lines go to these places of the record.
 pub(crate) static LAYER_TEXT_ROWS: [Entry; 2] = [
     row!(0, TYPE, parts: LETTERING_IN_LAYER, count: 7, place: 4),
-    row!(1, CHARACTER, kind: HOLDS_TEXT, most: TEXT_LIMITS[11], set: ANY_BYTES, place: 12),
+    row!(1, CHARACTER, kind: HOLDS_TEXT, most: TEXT_LIMITS[11], set: TEXT_SETS[11], place: 12),
 ];
 
 pub(crate) static SYMBOL_TEXT_ROWS: [Entry; 2] = [
     row!(0, TYPE, parts: LETTERING_IN_SYMBOL, count: 7, place: 4),
-    row!(1, CHARACTER, kind: HOLDS_TEXT, most: TEXT_LIMITS[11], set: ANY_BYTES, place: 12),
+    row!(1, CHARACTER, kind: HOLDS_TEXT, most: TEXT_LIMITS[11], set: TEXT_SETS[11], place: 12),
 ];
 
 pub(crate) static PLACED_TEXT_ROWS: [Entry; 2] = [
     row!(0, TYPE, parts: LETTERING_IN_LAYER, count: 7, place: 16),
-    row!(1, CHARACTER, kind: HOLDS_TEXT, most: TEXT_LIMITS[11], set: ANY_BYTES, place: 24),
+    row!(1, CHARACTER, kind: HOLDS_TEXT, most: TEXT_LIMITS[11], set: TEXT_SETS[11], place: 24),
 ];
