@@ -17,10 +17,10 @@ use Rattle.rules.specs.Numbers.{read_count}
 use Rattle.rules.specs.Values.{Num, num, natural, two_nums, Known, Kind, read_kind, Value, nums, linked, linked_of, chars, capital, find_sheet, good_ratio, with_one, ratio_parts, read_counts, read_ratio, read_serials, most_partners}
 use Rattle.rules.specs.RecordTable.{numbers}
 use Rattle.rules.proofs.Chains.{by_cond, and_left, and_right}
-use Rattle.leaves.specs.Bytes.{up_to}
+use Rattle.leaves.specs.Bytes.{up_to, past}
 use Rattle.leaves.specs.Drawing.{number_at, sheet_of}
 use Rattle.leaves.specs.declared.SheetSize.{SheetSize}
-use Rattle.leaves.proofs.Cuts.{up_to-none, up_to-take, split-last, split-more}
+use Rattle.leaves.proofs.Cuts.{up_to-none, up_to-take, past-drop, split-last, split-more}
 use Rattle.tables.specs.Rows.{values_of, kind_of}
 use Rattle.tables.specs.declared.Row.{Row}
 use Rattle.entries.specs.Parts.{val_of}
@@ -102,6 +102,23 @@ split-head d = go (leb (length d) (length (up_to 44 d))) refl
     go true e = let h = leb-true (length d) (length (up_to 44 d)) e in rw (split-last 44 d h, up_to-none 44 d h)
     go false e = let h = leb-false (length d) (length (up_to 44 d)) e in rw (split-more 44 d h)
 
+abbrev pub add_to : ℕ → Option ℕ → Option ℕ
+add_to n (Some m) = Some (n + m)
+add_to n None = None
+
+pub add_none : (k : Option ℕ) → k ≡ add_to 0 k
+add_none (Some m) = let e : m ≡ 0 + m = omega arith in ap Some e
+add_none None = refl
+
+add_twice : (n : ℕ) (k : Option ℕ) → add_to n (add_to 1 k) ≡ add_to (n + 1) k
+add_twice n (Some m) = let e : n + (1 + m) ≡ n + 1 + m = omega arith in ap Some e
+add_twice n None = refl
+
+long-cons : (o : Option ℕ) (x : Got (List ℕ)) (v : ℕ) → o ≡ Some v → long_of (cons_g (or_bad 10 o) x) ≡ add_to 1 (long_of x)
+long-cons None x v e = absurd (let q : ◌≡◌ {A = ℕ} 0 1 = cc in omega arith)
+long-cons (Some n) (got ns) v e = let q : suc (length ns) ≡ 1 + length ns = omega arith in ap Some q
+long-cons (Some n) (bad m) v e = refl
+
 long-not : (o : Option ℕ) (x : Got (List ℕ)) → o ≡ None → long_of (cons_g (or_bad 10 o) x) ≡ None
 long-not (Some n) x e = absurd (let q : ◌≡◌ {A = ℕ} 0 1 = cc in omega arith)
 long-not None (got ns) e = refl
@@ -111,6 +128,36 @@ module _ (d : List ℕ) where
   serial-not : (read_count 10 (up_to 44 d)) ≡ None → serials_in d ≡ None
   unfolding serials_in
   serial-not e = ap (λ (ss : List (List ℕ)). long_of (read_serials ss)) (split-head d) ∙ long-not (read_count 10 (up_to 44 d)) (read_serials (drop 1 (split 44 d))) e
+
+  serial-more : (v : ℕ) → length (up_to 44 d) < length d → read_count 10 (up_to 44 d) ≡ Some v → serials_in d ≡ add_to 1 (serials_in (past 44 d))
+  unfolding serials_in
+  serial-more v l e = rw (split-more 44 d l) (long-cons (read_count 10 (up_to 44 d)) (read_serials (split 44 (past 44 d))) v e)
+
+  serial-last : (v : ℕ) → length d ≤ length (up_to 44 d) → read_count 10 d ≡ Some v → serials_in d ≡ Some 1
+  unfolding serials_in
+  serial-last v l e = rw (split-last 44 d l) (long-cons (read_count 10 d) (got []) v e)
+
+-- n numbers were counted before what is left of c, and e is the end of the piece there
+module _ (c d : List ℕ) (n e : ℕ) (q : e ≡ length (up_to 44 d)) (k : serials_in c ≡ add_to n (serials_in d)) where
+  piece_is : take e d ≡ up_to 44 d
+  piece_is = rw q (up_to-take 44 d)
+
+  pub count-more : (v : ℕ) → e < length d → Some v ≡ read_count 10 (take e d) → serials_in c ≡ add_to (n + 1) (serials_in (drop (e + 1) d))
+  count-more v l r =
+      let l₁ : length (up_to 44 d) < length d = omega (arith, q, l) in
+      let z : suc (length (up_to 44 d)) ≡ e + 1 = omega (arith, q) in
+      k ∙ ap (add_to n) (serial-more d v l₁ (ap (read_count 10) (sym piece_is) ∙ sym r))
+      ∙ add_twice n (serials_in (past 44 d))
+      ∙ ap (λ (u : List ℕ). add_to (n + 1) (serials_in u)) (past-drop 44 d l₁ ∙ ap (λ (m : ℕ). drop m d) z)
+
+  pub count-not : None ≡ read_count 10 (take e d) → None ≡ serials_in c
+  count-not r = sym (k ∙ ap (add_to n) (serial-not d (ap (read_count 10) (sym piece_is) ∙ sym r)))
+
+  pub count-end : (v : ℕ) → length d ≤ e → Some v ≡ read_count 10 d → Some (n + 1) ≡ serials_in c
+  count-end v l r = sym (k ∙ ap (add_to n) (serial-last d v (omega (arith, q, l)) (sym r)))
+
+  pub count-last : length d ≤ e → None ≡ read_count 10 d → None ≡ serials_in c
+  count-last l r = sym (k ∙ ap (add_to n) (serial-not d (ap (read_count 10) (up_to-none 44 d (omega (arith, q, l))) ∙ sym r)))
 
 -- all parts between commas are numbers, or one is not
 abbrev pub is_read : List ℕ → Bool

@@ -9,7 +9,6 @@ ghost use Rattle.entries.specs.Names.{known_in, known_of};
 ghost use Rattle.entries.specs.Entering.{Puts, settled, serials_in};
 
 use crate::Known;
-use crate::by_forms::values_in;
 use crate::parts::single;
 use crate::values::{put_value, values};
 use crate::wire_serials::put_wire_serial;
@@ -67,10 +66,18 @@ fn serial_count(c: &[u8]) -> Option<u64>
     requires { length c.now ≤ 61440 }
     ensures { result ≡ serials_in c.now }
 {
-    if c.split(|b| *b == b',').all(|item| serial(item).is_some()) {
-        Some(values_in(c) as u64)
-    } else {
-        None
+    let mut rest = c;
+    let mut n = 0;
+    // one pass: each number tells where the next one begins
+    loop {
+        let e = find(rest, b',');
+        if rest.len() <= e {
+            serial(rest)?;
+            return Some(n + 1);
+        }
+        serial(&rest[..e])?;
+        rest = &rest[e + 1..];
+        n += 1;
     }
 }
 
