@@ -539,3 +539,9 @@ module _ (k : Known) (d : Digits) (full : Bool) (j : ℕ) (r : Rule) (c : Rest) 
       let (t6, g7) = unless-got (not full) 11 (got b) a g6 in
       let q : b ≡ a = cc in
       record { number = j; act = b; read = g5; value = ap value_of q; fit = t3 }
+
+  pub entry-reads : (i : ℕ) (v : Value) → act_row k d full j r c ≡ entry i v → Reads k r c v
+  entry-reads i v e = read_by (entry i v) (entry-got tested i v e)
+
+  pub begin-reads : (n i : ℕ) (v : Value) → act_row k d full j r c ≡ begin n i v → Reads k r c v
+  begin-reads n i v e = read_by (begin n i v) (begin-got tested n i v e)
