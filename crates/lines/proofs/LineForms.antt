@@ -8,7 +8,7 @@ use mathlib.Core.Bool.{Bool, true, false, cond, ◌&&◌, ◌||◌}
 use mathlib.Core.List.{List, [], ◌∷◌}
 use native.Mathlib.Omega.{arith}
 use lib.Dec.{eqb}
-use lib.ListN.{length, get_or, take, drop, drop_of_length-le}
+use lib.ListN.{length, get_or, take, drop, drop_of_length-le, length-drop}
 use borrow.Author.Tests.{eq-eqb, ne_eqb, eqb-true, eqb-false}
 use Rattle.rules.proofs.Chains.{clash, and_false, ap-cond}
 use Rattle.rules.specs.Base.{choose, bytes, is_nil, same}
@@ -131,6 +131,20 @@ eqb-flip a b = go (eqb b a) refl
     go : (t : Bool) → eqb b a ≡ t → eqb a b ≡ t
     go true q = eq-eqb a b (let e = eqb-true b a q in omega (arith, e))
     go false q = ne_eqb a b (λ e. eqb-false b a q (omega (arith, e)))
+
+-- by places
+opens-few : (t : List ℕ) → length t ≤ 1 → opens_here t ≡ false
+unfolding opens_here
+opens-few [] h = refl
+opens-few (b ∷ []) h = refl
+opens-few (b ∷ c ∷ t) h = absurd (omega (arith, h))
+
+pub opens-last : (s : List ℕ) (i : ℕ) → length s ≤ i + 1 → opens_here (drop i s) ≡ false
+opens-last s i h = opens-few (drop i s) (omega (arith, length-drop i s, h))
+
+pub opens_by : (s : List ℕ) (i : ℕ) → i + 1 < length s → opens_here (drop i s) ≡ (eqb (get_or s i 0) 58 && eqb (get_or s (i + 1) 0) 123)
+unfolding opens_here
+opens_by s i h = rw (by_place s i (omega (arith, h)), by_place s (i + 1) h) refl
 
 -- as the code tests it
 pub opens-starts : (s : List ℕ) → starts_with eqb s (58 ∷ 123 ∷ []) ≡ opens_here s

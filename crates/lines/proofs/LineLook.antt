@@ -269,6 +269,23 @@ unfolding key_char char_of
 key-goes [] e f = refl
 key-goes (b ∷ s) e f = let q = forms.eqb-flip b 61 ∙ sym (and-true (eqb 61 b)) ∙ e in rw (q, f)
 
+-- the same by places
+pub key-end : (t : List ℕ) (i : ℕ) → length t ≤ i → key_char (drop i t) ≡ 0
+unfolding key_char
+key-end t i h = rw (drop_of_length-le t h)
+
+module _ (t : List ℕ) (i : ℕ) (h : i < length t) where
+  pub key_equal : get_or t i 0 ≡ 61 → key_char (drop i t) ≡ 0
+  unfolding key_char
+  key_equal e = rw (by_place t i h, eq-eqb _ _ e)
+
+  pub key-other : (get_or t i 0 ≡ 61 → ⊥) → opens_here (drop i t) ≡ false → key_char (drop i t) ≡ char_of (drop i t)
+  unfolding key_char
+  key-other n f = rw (by_place t i h) (go (get_or t i 0) (drop (i + 1) t) n (rw (sym (by_place t i h)) f))
+    where
+      go : (b : ℕ) (s : List ℕ) → (b ≡ 61 → ⊥) → opens_here (b ∷ s) ≡ false → key_char (b ∷ s) ≡ char_of (b ∷ s)
+      go b s n f = rw (ne_eqb b 61 n, f)
+
 -- ── leading blanks ──
 abbrev narrow : ℕ → Bool
 narrow b = eqb b 32 || eqb b 9

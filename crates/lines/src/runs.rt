@@ -47,7 +47,10 @@ pub(crate) fn opens_at(s: &[u8], i: usize) -> bool
     requires { i ≤ length s.now }
     ensures { result ≡ opens_here (drop i s.now) }
 {
-    s[i..].starts_with(b":{")
+    if s.len() <= i + 1 {
+        return false;
+    }
+    s[i] == b':' && s[i + 1] == b'{'
 }
 
 fn single_byte(b: u8) -> bool
@@ -92,7 +95,8 @@ fn key_char(t: &[u8], i: usize) -> Option<usize>
     requires { i ≤ length t.now }
     ensures { IfAny result (key_char (drop i t.now)) }
 {
-    if t[i..].starts_with(b"=") || opens_at(t, i) {
+    let b = *t.get(i)?;
+    if b == b'=' || opens_at(t, i) {
         return None;
     }
     char_at(t, i)
